@@ -1,0 +1,12 @@
+use borrow.Author.Needs.{needs}
+use native.Mathlib.Omega.{arith}
+use lib.ListN.{length-drop}
+use Rattle.std.proofs.shelf.Lists.{take-more-set}
+use Rattle.hosts.proofs.Buffers.{drop-more-set}
+use Rattle.hosts.proofs.live_host.LivePushHost.put.Needs as need
+
+pub returns-then-self : need.returns-then-self
+returns-then-self c = search (needs, length-drop)
+
+pub returns : need.returns
+returns c = search (needs, length-drop, take-more-set, drop-more-set)

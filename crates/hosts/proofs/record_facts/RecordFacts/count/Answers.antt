@@ -1,0 +1,11 @@
+use native.Mathlib.Omega.{arith}
+use Rattle.runtime.specs.Packing.{cells-of}
+use Rattle.runtime.proofs.Cells.{length-cells}
+use Rattle.runtime.proofs.Firsts.{length-first}
+use Rattle.hosts.proofs.record_facts.RecordFacts.count.Needs as need
+
+pub returns : need.returns
+returns c =
+    let e = length-first 64 (cells-of (c .args .self .now .numbers .now)) in
+    let k = length-cells (c .args .self .now .numbers .now) in
+    record { answer = omega arith; small = omega arith }

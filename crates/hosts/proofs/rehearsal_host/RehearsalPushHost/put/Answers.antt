@@ -1,0 +1,13 @@
+use borrow.Author.Needs.{needs}
+use native.Mathlib.Omega.{arith}
+use lib.ListN.{length-drop}
+use lib.Seq.{take-set-lt}
+use Rattle.std.proofs.shelf.Lists.{length-take, take-more-set}
+use Rattle.hosts.proofs.Buffers.{drop-more-set}
+use Rattle.hosts.proofs.rehearsal_host.RehearsalPushHost.put.Needs as need
+
+pub returns-then-self : need.returns-then-self
+returns-then-self c = search (needs, length-drop, length-take)
+
+pub returns : need.returns
+returns c = record { answer = search (needs, length-drop, length-take); after = search (needs, take-more-set); spare = search (needs, take-set-lt, drop-more-set); facts = search needs; place = search needs }

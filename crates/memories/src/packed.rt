@@ -1,0 +1,80 @@
+// A memory packed in bytes: four to a cell, the low byte first, 16,384 cells at most. Bytes past these, or past the last
+// whole four, are never read or written.
+ghost use mathlib.Core.Bool.{cond};
+ghost use mathlib.Core.Path.{_≡_};
+ghost use Prim.Native.Nat.{ℕ, _≤_, _/_};
+ghost use denote.Ref.{name};
+ghost use lib.Dec.{ltb};
+ghost use lib.ListN.{length, set};
+ghost use Rattle.std.specs.Results.{isOk};
+ghost use Rattle.runtime.specs.Packing.{cells-of};
+ghost use Rattle.runtime.specs.First.{first};
+ghost use Rattle.memories.specs.Kinds.{around-bytes, packed-in};
+use runtime::memory::Memory;
+use runtime::memory::Outside;
+use runtime::packing::packed_number;
+
+#[derive(Drop)]
+pub struct Packed<'a> {
+    pub bytes: &'a mut [u8],
+}
+
+// How many cells the bytes have.
+fn used_bytes(bytes: &[u8]) -> usize
+    ensures answer { λ r. ⌜ r ≡ length (first 16384 (cells-of (now (bytes .entry)))) ⌝ }
+    ensures low { λ r. ⌜ r ≤ length (now (bytes .entry)) / 4 ⌝ }
+    ensures high { λ r. ⌜ r ≤ 16384 ⌝ }
+{
+    (bytes.len() / 4).min(16384)
+}
+
+fn write_packed(bytes: &mut [u8], i: usize, v: i32) -> Result<(), Outside>
+    ensures answer { λ r. ⌜ isOk r ≡ ltb i (length (first 16384 (cells-of (now (bytes .entry))))) ⌝ }
+    ensures lent { λ r. ⌜ now (bytes .exit) ≡ cond (isOk r) (packed-in (now (bytes .entry)) i v) (now (bytes .entry)) ⌝ }
+{
+    if i >= used_bytes(bytes) {
+        return Err(Outside);
+    }
+    let at = 4 * i;
+    let [a, b, c, d] = v.to_le_bytes();
+    bytes[at] = a;
+    bytes[at + 1] = b;
+    bytes[at + 2] = c;
+    bytes[at + 3] = d;
+    Ok(())
+}
+
+pub impl Memory for Packed<'_> as PackedMemory {
+    const MAX_CELLS: usize = 16384;
+
+    ghost cells = { λ m. first 16384 (cells-of (m .bytes .now)) };
+
+    ghost most = { 16384 };
+
+    ghost around = { λ m. around-bytes (name (m .bytes)) (m .bytes .now) };
+
+    fn limit(&self) -> usize {
+        Self::MAX_CELLS
+    }
+
+    fn len(&self) -> usize {
+        used_bytes(&*self.bytes)
+    }
+
+    fn read(&self, i: usize) -> Option<i32> {
+        let bytes: &[u8] = &*self.bytes;
+        if i >= used_bytes(bytes) {
+            return None;
+        }
+        packed_number(bytes, i)
+    }
+
+    fn write(&mut self, i: usize, v: i32) -> Result<(), Outside>
+        ensures answer { λ r. ⌜ isOk r ≡ ltb i (length (first 16384 (cells-of (now (self .entry) .bytes .now)))) ⌝ }
+        ensures after { λ r. ⌜ first 16384 (cells-of (now (self .exit) .bytes .now)) ≡ set (first 16384 (cells-of (now (self .entry) .bytes .now))) i v ⌝ }
+        ensures around { λ r. ⌜ around-bytes (name (now (self .exit) .bytes)) (now (self .exit) .bytes .now) ≡ around-bytes (name (now (self .entry) .bytes)) (now (self .entry) .bytes .now) ⌝ }
+        ensures lent { λ r. ⌜ now (self .exit) .bytes .now ≡ cond (isOk r) (packed-in (now (self .entry) .bytes .now) i v) (now (self .entry) .bytes .now) ⌝ }
+    {
+        write_packed(self.bytes, i, v)
+    }
+}

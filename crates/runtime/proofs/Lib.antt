@@ -1,0 +1,4 @@
+pub mod Below
+pub mod Cells
+pub mod Firsts
+pub mod Texts

@@ -1,0 +1,66 @@
+// The three system calls: a number or a byte for the report, a fact about the push.
+ghost use lib.IntN.{ℤ};
+ghost use mathlib.Core.List.{List};
+ghost use mathlib.Core.Path.{_≡_};
+ghost use Rattle.runtime.specs.Meanings.{Spared};
+ghost use Rattle.runtime.specs.System.{Reported, byte-written, capacity, fact-told, number-written};
+use crate::host::Facts;
+use crate::host::PushHost;
+use crate::stop::Stop;
+use crate::text::digit_count;
+use crate::text::put_digits;
+
+// Sys 1: the number in decimal, whole, or no byte of it.
+pub fn write_number<H: PushHost>(host: &mut H, value: i32) -> Result<i32, Stop>
+    ensures does { λ r. ⌜ record { result = r; report = H·PushHost .report (now (host .exit)) } ≡ number-written (capacity (H·PushHost .report (now (host .entry))) (H·PushHost .spare (now (host .entry)))) (H·PushHost .report (now (host .entry))) value ⌝ }
+    ensures spared { λ r. ⌜ Spared (H·PushHost .report (now (host .entry))) (H·PushHost .spare (now (host .entry))) (H·PushHost .report (now (host .exit))) (H·PushHost .spare (now (host .exit))) ⌝ }
+    ensures facts { λ r. ⌜ H·Facts .facts (now (host .exit)) ≡ H·Facts .facts (now (host .entry)) ⌝ }
+    ensures place { λ _. ⌜ H·PushHost .place (now (host .exit)) ≡ H·PushHost .place (now (host .entry)) ⌝ }
+{
+    let digits = value.unsigned_abs();
+    if value < 0 {
+        if host.space() <= digit_count(digits) {
+            return Err(Stop::ReportFull);
+        }
+        let _ = host.put(b'-');
+        put_digits(host, digits);
+        return Ok(value);
+    }
+    if host.space() < digit_count(digits) {
+        return Err(Stop::ReportFull);
+    }
+    put_digits(host, digits);
+    Ok(value)
+}
+
+// Sys 2: one byte.
+pub fn write_byte<H: PushHost>(host: &mut H, value: i32) -> Result<i32, Stop>
+    ensures does { λ r. ⌜ record { result = r; report = H·PushHost .report (now (host .exit)) } ≡ byte-written (capacity (H·PushHost .report (now (host .entry))) (H·PushHost .spare (now (host .entry)))) (H·PushHost .report (now (host .entry))) value ⌝ }
+    ensures spared { λ r. ⌜ Spared (H·PushHost .report (now (host .entry))) (H·PushHost .spare (now (host .entry))) (H·PushHost .report (now (host .exit))) (H·PushHost .spare (now (host .exit))) ⌝ }
+    ensures facts { λ r. ⌜ H·Facts .facts (now (host .exit)) ≡ H·Facts .facts (now (host .entry)) ⌝ }
+    ensures place { λ _. ⌜ H·PushHost .place (now (host .exit)) ≡ H·PushHost .place (now (host .entry)) ⌝ }
+{
+    if value < 0 {
+        return Err(Stop::NotByte);
+    }
+    if value > 255 {
+        return Err(Stop::NotByte);
+    }
+    match host.put(value as u8) {
+        Ok(()) => Ok(value),
+        Err(_) => Err(Stop::ReportFull),
+    }
+}
+
+// Sys 3: the fact of that number. It needs facts alone, and no report.
+pub fn fact_at<F: Facts>(source: &F, number: i32) -> Result<i32, Stop>
+    ensures { λ r. ⌜ r ≡ fact-told (facts (now (source .entry))) number ⌝ }
+{
+    if number < 0 {
+        return Err(Stop::NoFact);
+    }
+    match source.fact(number as usize) {
+        Some(v) => Ok(v),
+        None => Err(Stop::NoFact),
+    }
+}
