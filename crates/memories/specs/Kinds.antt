@@ -1,4 +1,4 @@
--- What of a lent buffer lies behind its cells, and a cell written in bytes. What counts to a limit stays shut, so that no search counts along.
+-- What of a lent buffer lies behind its cells, and a cell written in bytes. What counts to a limit stays shut, so that no proof counts along.
 use base.Fml.{GName}
 use mathlib.Core.List.{List, map}
 use Prim.Native.Nat.{ℕ, _+_, _*_, _/_, _%_, min}

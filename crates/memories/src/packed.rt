@@ -14,6 +14,8 @@ use runtime::memory::Memory;
 use runtime::memory::Outside;
 use runtime::packing::packed_number;
 
+const MOST: usize = 16384;
+
 #[derive(Drop)]
 pub struct Packed<'a> {
     pub bytes: &'a mut [u8],
@@ -25,7 +27,7 @@ fn used_bytes(bytes: &[u8]) -> usize
     ensures low { λ r. ⌜ r ≤ length (now (bytes .entry)) / 4 ⌝ }
     ensures high { λ r. ⌜ r ≤ 16384 ⌝ }
 {
-    (bytes.len() / 4).min(16384)
+    (bytes.len() / 4).min(MOST)
 }
 
 fn write_packed(bytes: &mut [u8], i: usize, v: i32) -> Result<(), Outside>
@@ -45,7 +47,7 @@ fn write_packed(bytes: &mut [u8], i: usize, v: i32) -> Result<(), Outside>
 }
 
 pub impl Memory for Packed<'_> as PackedMemory {
-    const MAX_CELLS: usize = 16384;
+    const MAX_CELLS: usize = MOST;
 
     ghost cells = { λ m. first 16384 (cells-of (m .bytes .now)) };
 

@@ -11,6 +11,8 @@ ghost use Rattle.memories.specs.Kinds.{around-words};
 use runtime::memory::Memory;
 use runtime::memory::Outside;
 
+const MOST: usize = 65536;
+
 #[derive(Drop)]
 pub struct Words<'a> {
     pub cells: &'a mut [i32],
@@ -22,7 +24,7 @@ fn used(cells: &[i32]) -> usize
     ensures low { λ r. ⌜ r ≤ length (now (cells .entry)) ⌝ }
     ensures high { λ r. ⌜ r ≤ 65536 ⌝ }
 {
-    cells.len().min(65536)
+    cells.len().min(MOST)
 }
 
 fn write_word(cells: &mut [i32], i: usize, v: i32) -> Result<(), Outside>
@@ -37,7 +39,7 @@ fn write_word(cells: &mut [i32], i: usize, v: i32) -> Result<(), Outside>
 }
 
 pub impl Memory for Words<'_> as WordsMemory {
-    const MAX_CELLS: usize = 65536;
+    const MAX_CELLS: usize = MOST;
 
     ghost cells = { λ m. first 65536 (m .cells .now) };
 

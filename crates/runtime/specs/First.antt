@@ -1,4 +1,4 @@
--- The numbers of a list that lie within a limit. It stays shut, so that no search counts to the limit.
+-- The numbers of a list that lie within a limit. It stays shut, so that no proof counts to the limit.
 use mathlib.Core.List.{List}
 use Prim.Native.Nat.{ℕ}
 use lib.IntN.{ℤ}

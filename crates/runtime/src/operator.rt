@@ -1,4 +1,4 @@
-// The five operators, and the test for 0.
+// The five operators, and when a value is false.
 ghost use mathlib.Core.Path.{_≡_};
 ghost use lib.IntN.{_+ℤ_};
 ghost use mir.Syntax.{w32};
