@@ -7,7 +7,7 @@ pub struct PushRecord<'a> {
 }
 
 // Why bytes are no push record.
-#[derive(Clone, Copy, PartialEq, Eq, Debug)]
+#[derive(Clone, Copy)]
 pub enum RecordFault {
     // Fewer bytes than the header has.
     Short,

@@ -1,11 +1,12 @@
 // Reading a push record, and the facts in it.
 ghost use mathlib.Core.List.{[]};
 ghost use mathlib.Core.Path.{_≡_};
-ghost use Rattle.hosts.specs.Records.{body, facts-of, number-of, read};
+ghost use Rattle.std.specs.Vec.{made};
+ghost use Rattle.hosts.specs.Records.{body, facts-of, number-of, read, record-bytes, Sent};
 use crate::record::PushRecord;
 use crate::record::RecordFault;
+use packing::cell_at;
 use runtime::host::Facts;
-use runtime::packing::packed_number;
 
 impl RecordFault {
     // The number that the fault is known by.
@@ -25,7 +26,9 @@ impl RecordFault {
 impl<'a> PushRecord<'a> {
     // Takes the header apart; the facts stay where they are.
     pub fn read(bytes: &'a [u8]) -> Result<PushRecord<'a>, RecordFault>
-        ensures { λ r. ⌜ read r ≡ body (now (bytes .entry)) ⌝ }
+        ensures answer { λ r. ⌜ read r ≡ body (now (bytes .entry)) ⌝ }
+        ensures again { λ r. ⌜ made r (λ p. record-bytes (facts-of p) ≡ now (bytes .entry)) ⌝ }
+        ensures sent { λ _. ⌜ Sent ⌝ }
     {
         if bytes.len() < 6 {
             return Err(RecordFault::Short);
@@ -67,6 +70,6 @@ pub impl Facts for PushRecord<'_> as RecordFacts {
         if k >= 64 {
             return None;
         }
-        packed_number(self.numbers, k)
+        cell_at(self.numbers, k)
     }
 }

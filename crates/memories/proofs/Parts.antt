@@ -6,37 +6,27 @@ use Prim.Native.Nat.{ℕ, _+_, _*_, _/_, _%_, _<_, _≤_, min}
 use native.Mathlib.Omega.{arith}
 use lib.Dec.{ltb}
 use lib.IntN.{ℤ, pos}
-use lib.ListN.{length, set, drop, length-set}
+use lib.ListN.{length, set, drop}
 use lib.Seq.{drop-set-lt}
 use mir.Syntax.{w32}
 use mir.Val.{ofZ, SFits}
 use Rattle.std.proofs.shelf.Lists.{set-past}
 use Rattle.std.proofs.shelf.Tests.{ltb-true, ltb-false}
-use Rattle.runtime.specs.Packing.{cells-of}
-use Rattle.runtime.proofs.Cells.{bytes-make, cell-put, length-cells, put4-is}
+use Rattle.packing.specs.Packing.{cells-of, packed-in}
+use Rattle.packing.proofs.Cells.{cells-packed-in, length-cells, length-packed-in}
 use Rattle.runtime.specs.First.{first}
 use Rattle.runtime.proofs.Firsts.{length-first, set-first}
-use Rattle.memories.specs.Kinds.{behind, bytes-behind, packed-in}
+use Rattle.memories.specs.Kinds.{behind, bytes-behind}
 
 pub behind-set : (n : ℕ) (xs : List ℤ) (i : ℕ) (v : ℤ) → i < length (first n xs) → behind n (set xs i v) ≡ behind n xs
 unfolding behind
 behind-set n xs i v h = drop-set-lt n xs i v (omega (arith, length-first n xs))
 
-pub length-packed-in : (bs : List ℕ) (i : ℕ) (v : ℤ) → length (packed-in bs i v) ≡ length bs
-length-packed-in bs i v = length-set _ _ _ ∙ length-set _ _ _ ∙ length-set _ _ _ ∙ length-set _ _ _
-
--- a cell that is written in its four bytes
-pub cells-packed-in : (bs : List ℕ) (i : ℕ) (v : ℤ) → SFits w32 v → i < length bs / 4 → cells-of (packed-in bs i v) ≡ set (cells-of bs) i v
-cells-packed-in bs i v f h =
-    ap cells-of (put4-is bs (4 * i) _ _ _ _)
-    ∙ cell-put bs i (ofZ w32 v % 256) (ofZ w32 v / 256 % 256) (ofZ w32 v / 65536 % 256) (ofZ w32 v / 16777216 % 256) (omega arith)
-    ∙ ap (set (cells-of bs) i) (bytes-make v f)
-
-pub bytes-behind-packed-in : (n : ℕ) (bs : List ℕ) (i : ℕ) (v : ℤ) → i < min n (length bs / 4) → bytes-behind n (packed-in bs i v) ≡ bytes-behind n bs
+pub bytes-behind-packed-in : (n : ℕ) (bs : List ℕ) (i w : ℕ) → i < min n (length bs / 4) → bytes-behind n (packed-in bs i w) ≡ bytes-behind n bs
 unfolding bytes-behind
-bytes-behind-packed-in n bs i v h =
+bytes-behind-packed-in n bs i w h =
     let k = 4 * min n (length bs / 4) in
-    ap (λ (l : ℕ). map pos (drop (4 * min n (l / 4)) (packed-in bs i v))) (length-packed-in bs i v)
+    ap (λ (l : ℕ). map pos (drop (4 * min n (l / 4)) (packed-in bs i w))) (length-packed-in bs i w)
     ∙ ap (map pos)
     (drop-set-lt k _ (4 * i + 3) _ (omega arith) ∙ drop-set-lt k _ (4 * i + 2) _ (omega arith) ∙ drop-set-lt k _ (4 * i + 1) _ (omega arith) ∙ drop-set-lt k _ (4 * i) _ (omega arith))
 
@@ -55,16 +45,16 @@ word-written n false xs ys i w v z t e =
 
 -- the same of four bytes
 abbrev pub CellWritten : ℕ → Bool → List ℕ → List ℕ → ℕ → ℤ → Type 0
-CellWritten n b xs ys i v = (first n (cells-of ys) ≡ set (first n (cells-of xs)) i v) × (bytes-behind n ys ≡ bytes-behind n xs) × (ys ≡ cond b (packed-in xs i v) xs)
+CellWritten n b xs ys i v = (first n (cells-of ys) ≡ set (first n (cells-of xs)) i v) × (bytes-behind n ys ≡ bytes-behind n xs) × (ys ≡ cond b (packed-in xs i (ofZ w32 v)) xs)
 
-pub cell-written : (n : ℕ) (b : Bool) (xs ys : List ℕ) (i : ℕ) (w v : ℤ) → SFits w32 v → w ≡ v → b ≡ ltb i (length (first n (cells-of xs))) → ys ≡ cond b (packed-in xs i w) xs → CellWritten n b xs ys i v
+pub cell-written : (n : ℕ) (b : Bool) (xs ys : List ℕ) (i : ℕ) (w v : ℤ) → SFits w32 v → w ≡ v → b ≡ ltb i (length (first n (cells-of xs))) → ys ≡ cond b (packed-in xs i (ofZ w32 w)) xs → CellWritten n b xs ys i v
 cell-written n true xs ys i w v f z t e =
     let h = ltb-true i (length (first n (cells-of xs))) (sym t) in
     let l = length-first n (cells-of xs) in
     let k = length-cells xs in
-    let y : ys ≡ packed-in xs i v = e ∙ ap (packed-in xs i) z in (
+    let y : ys ≡ packed-in xs i (ofZ w32 v) = e ∙ ap (λ (x : ℤ). packed-in xs i (ofZ w32 x)) z in (
       ap (λ (bs : List ℕ). first n (cells-of bs)) y ∙ ap (first n) (cells-packed-in xs i v f (omega arith)) ∙ set-first n (cells-of xs) i v h,
-      ap (bytes-behind n) y ∙ bytes-behind-packed-in n xs i v (omega arith),
+      ap (bytes-behind n) y ∙ bytes-behind-packed-in n xs i (ofZ w32 v) (omega arith),
       y,
     )
 cell-written n false xs ys i w v f z t e =

@@ -1,11 +1,9 @@
--- What of a lent buffer lies behind its cells, and a cell written in bytes. What counts to a limit stays shut, so that no proof counts along.
+-- What of a lent buffer lies behind its cells. What counts to a limit stays shut, so that no proof counts along.
 use base.Fml.{GName}
 use mathlib.Core.List.{List, map}
-use Prim.Native.Nat.{ℕ, _+_, _*_, _/_, _%_, min}
+use Prim.Native.Nat.{ℕ, _*_, _/_, min}
 use lib.IntN.{ℤ, pos}
-use lib.ListN.{length, drop, set}
-use mir.Syntax.{w32}
-use mir.Val.{ofZ}
+use lib.ListN.{length, drop}
 use Rattle.runtime.specs.Meanings.{Around}
 
 -- the words behind n cells
@@ -15,10 +13,6 @@ behind n xs = drop n xs
 -- the bytes behind n cells at most, of four bytes each
 unfoldable pub bytes-behind : ℕ → List ℕ → List ℤ
 bytes-behind n bs = map pos (drop (4 * min n (length bs / 4)) bs)
-
--- the bytes with v in the four of cell i
-abbrev pub packed-in : List ℕ → ℕ → ℤ → List ℕ
-packed-in bs i v = set (set (set (set bs (4 * i) (ofZ w32 v % 256)) (4 * i + 1) (ofZ w32 v / 256 % 256)) (4 * i + 2) (ofZ w32 v / 65536 % 256)) (4 * i + 3) (ofZ w32 v / 16777216 % 256)
 
 abbrev pub around-words : GName → List ℤ → Around
 around-words place xs = record { place = place; rest = behind 65536 xs }

@@ -5,14 +5,17 @@ ghost use mathlib.Core.Path.{_≡_};
 ghost use Prim.Native.Nat.{ℕ, _≤_, _/_};
 ghost use denote.Ref.{name};
 ghost use lib.Dec.{ltb};
+ghost use mir.Syntax.{w32};
+ghost use mir.Val.{ofZ};
 ghost use lib.ListN.{length, set};
 ghost use Rattle.std.specs.Results.{isOk};
-ghost use Rattle.runtime.specs.Packing.{cells-of};
+ghost use Rattle.packing.specs.Packing.{cells-of, packed-in};
 ghost use Rattle.runtime.specs.First.{first};
-ghost use Rattle.memories.specs.Kinds.{around-bytes, packed-in};
+ghost use Rattle.memories.specs.Kinds.{around-bytes};
+use packing::cell_at;
+use packing::set_word;
 use runtime::memory::Memory;
 use runtime::memory::Outside;
-use runtime::packing::packed_number;
 
 const MOST: usize = 16384;
 
@@ -32,17 +35,12 @@ fn used_bytes(bytes: &[u8]) -> usize
 
 fn write_packed(bytes: &mut [u8], i: usize, v: i32) -> Result<(), Outside>
     ensures answer { λ r. ⌜ isOk r ≡ ltb i (length (first 16384 (cells-of (now (bytes .entry))))) ⌝ }
-    ensures lent { λ r. ⌜ now (bytes .exit) ≡ cond (isOk r) (packed-in (now (bytes .entry)) i v) (now (bytes .entry)) ⌝ }
+    ensures lent { λ r. ⌜ now (bytes .exit) ≡ cond (isOk r) (packed-in (now (bytes .entry)) i (ofZ w32 v)) (now (bytes .entry)) ⌝ }
 {
     if i >= used_bytes(bytes) {
         return Err(Outside);
     }
-    let at = 4 * i;
-    let [a, b, c, d] = v.to_le_bytes();
-    bytes[at] = a;
-    bytes[at + 1] = b;
-    bytes[at + 2] = c;
-    bytes[at + 3] = d;
+    let _ = set_word(bytes, i, v.cast_unsigned());
     Ok(())
 }
 
@@ -68,14 +66,14 @@ pub impl Memory for Packed<'_> as PackedMemory {
         if i >= used_bytes(bytes) {
             return None;
         }
-        packed_number(bytes, i)
+        cell_at(bytes, i)
     }
 
     fn write(&mut self, i: usize, v: i32) -> Result<(), Outside>
         ensures answer { λ r. ⌜ isOk r ≡ ltb i (length (first 16384 (cells-of (now (self .entry) .bytes .now)))) ⌝ }
         ensures after { λ r. ⌜ first 16384 (cells-of (now (self .exit) .bytes .now)) ≡ set (first 16384 (cells-of (now (self .entry) .bytes .now))) i v ⌝ }
         ensures around { λ r. ⌜ around-bytes (name (now (self .exit) .bytes)) (now (self .exit) .bytes .now) ≡ around-bytes (name (now (self .entry) .bytes)) (now (self .entry) .bytes .now) ⌝ }
-        ensures lent { λ r. ⌜ now (self .exit) .bytes .now ≡ cond (isOk r) (packed-in (now (self .entry) .bytes .now) i v) (now (self .entry) .bytes .now) ⌝ }
+        ensures lent { λ r. ⌜ now (self .exit) .bytes .now ≡ cond (isOk r) (packed-in (now (self .entry) .bytes .now) i (ofZ w32 v)) (now (self .entry) .bytes .now) ⌝ }
     {
         write_packed(self.bytes, i, v)
     }

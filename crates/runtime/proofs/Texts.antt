@@ -15,7 +15,8 @@ use Rattle.std.proofs.shelf.Decimals.{decimal-digit, decimal-step}
 use Rattle.std.proofs.shelf.Signed.{ints}
 use Rattle.std.proofs.shelf.Tests.{cond-true, lt-ltb, le-leb}
 use Rattle.runtime.specs.Meanings.{Spared}
-use Rattle.runtime.specs.System.{number-written, Reported}
+use Rattle.std.specs.Numbers.{Unsigned}
+use Rattle.runtime.specs.System.{byte-written, number-written, Reported}
 
 pub length-one : (n : ℕ) → n < 10 → length (decimal n) ≡ 1
 length-one n h = ap length (decimal-digit n h)
@@ -57,3 +58,13 @@ text-negative (negsuc k) n most rep one two h e w f g =
     let z : length (decimal n) ≡ length (decimal (suc k)) = ap (λ x. length (decimal x)) e in
     let t : two ≡ rep ++ (45 ∷ decimal (suc k)) = g ∙ ap (λ x. x ++ decimal n) f ∙ append-assoc rep (45 ∷ []) (decimal n) ∙ ap (λ x. rep ++ (45 ∷ decimal x)) e in
     ap (λ (x : List ℕ). record { result = Ok (negsuc k); report = x }) t ∙ sym (cond-true _ _ _ (le-leb (length rep + length (45 ∷ decimal (suc k))) most (omega arith)))
+
+-- a byte that was in range, and found room
+pub byte-there : (v w : ℤ) (b most : ℕ) (rep rep′ : List ℕ) → w ≡ v → Unsigned 8 w → b ≡ natAbs w → length rep < most → rep′ ≡ rep ++ (b ∷ []) → _≡_ {A = Reported} (record { result = Ok w; report = rep′ }) (byte-written most rep v)
+byte-there v (pos n) b most rep rep′ z u e h t =
+    let s : rep′ ≡ rep ++ (n ∷ []) = t ∙ ap (λ (x : ℕ). rep ++ (x ∷ [])) e in
+    ap (λ (x : List ℕ). record { result = Ok (pos n); report = x }) s
+    ∙ sym (cond-true _ _ _ (le-leb (length rep + 1) most (omega arith)))
+    ∙ sym (cond-true _ _ _ (lt-ltb n 256 u))
+    ∙ ap (byte-written most rep) z
+byte-there v (negsuc n) b most rep rep′ z u e h t = absurd u

@@ -2,6 +2,5 @@ pub mod Access
 pub mod First
 pub mod Meanings
 pub mod Operators
-pub mod Packing
 pub mod Stops
 pub mod System

@@ -12,7 +12,7 @@ ghost use Rattle.std.specs.Results.{isOk};
 ghost use Rattle.std.specs.shelf.Maps.{nth};
 
 // The report has no room for one more byte.
-#[derive(Clone, Copy, PartialEq, Eq, Debug)]
+#[derive(Clone, Copy)]
 pub struct Full;
 
 // A fixed list of at most 64 numbers, what a rule can ask about a push.

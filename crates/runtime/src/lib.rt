@@ -3,7 +3,6 @@ pub mod access;
 pub mod host;
 pub mod memory;
 pub mod operator;
-pub mod packing;
 pub mod stop;
 pub mod system;
 mod text;

@@ -11,7 +11,7 @@ ghost use Rattle.std.specs.shelf.Maps.{nth};
 ghost use Rattle.runtime.specs.Meanings.{Around};
 
 // There is no cell at that place.
-#[derive(Clone, Copy, PartialEq, Eq, Debug)]
+#[derive(Clone, Copy)]
 pub struct Outside;
 
 pub trait Memory {

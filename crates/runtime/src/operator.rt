@@ -5,7 +5,7 @@ ghost use mir.Syntax.{w32};
 ghost use Rattle.std.specs.shelf.Signed.{wrapped};
 ghost use Rattle.runtime.specs.Operators.{applied, truth, zeroZ};
 
-#[derive(Clone, Copy, PartialEq, Eq, Debug)]
+#[derive(Clone, Copy)]
 pub enum Operator {
     Add,
     Sub,

@@ -40,13 +40,10 @@ pub fn write_byte<H: PushHost>(host: &mut H, value: i32) -> Result<i32, Stop>
     ensures facts { λ r. ⌜ H·Facts .facts (now (host .exit)) ≡ H·Facts .facts (now (host .entry)) ⌝ }
     ensures place { λ _. ⌜ H·PushHost .place (now (host .exit)) ≡ H·PushHost .place (now (host .entry)) ⌝ }
 {
-    if value < 0 {
+    let Ok(byte) = u8::try_from(value) else {
         return Err(Stop::NotByte);
-    }
-    if value > 255 {
-        return Err(Stop::NotByte);
-    }
-    match host.put(value as u8) {
+    };
+    match host.put(byte) {
         Ok(()) => Ok(value),
         Err(_) => Err(Stop::ReportFull),
     }
@@ -56,10 +53,10 @@ pub fn write_byte<H: PushHost>(host: &mut H, value: i32) -> Result<i32, Stop>
 pub fn fact_at<F: Facts>(source: &F, number: i32) -> Result<i32, Stop>
     ensures { λ r. ⌜ r ≡ fact-told (facts (now (source .entry))) number ⌝ }
 {
-    if number < 0 {
+    let Ok(k) = usize::try_from(number) else {
         return Err(Stop::NoFact);
-    }
-    match source.fact(number as usize) {
+    };
+    match source.fact(k) {
         Some(v) => Ok(v),
         None => Err(Stop::NoFact),
     }

@@ -1,11 +1,9 @@
 // The instructions of S-code and their names.
 ghost use mathlib.Core.Path.{_≡_};
 ghost use Rattle.scode.specs.Instructions.{name-of};
-use crate::code::encode;
-use std::fmt;
 
 // What sys asks of the host.
-#[derive(Clone, Copy, PartialEq, Eq, Debug)]
+#[derive(Clone, Copy)]
 pub enum SystemCall {
     Number = 1,
     Byte = 2,
@@ -74,17 +72,6 @@ impl Instruction {
             Instruction::Pop => "pop",
             Instruction::Ret(_) => "ret",
             Instruction::Bad(_) => "bad",
-        }
-    }
-}
-
-// The name and the word; written out, since the derived one is slow to prove.
-pub impl fmt::Debug for Instruction as InstructionDebug {
-    fn fmt<W: fmt::Write>(&self, f: &mut fmt::Formatter<W>) -> fmt::Result {
-        let name = self.mnemonic();
-        match encode(*self) {
-            Some(word) => write!(f, "{name} {word:#010x}"),
-            None => f.write_str(name),
         }
     }
 }

@@ -1,3 +1,3 @@
-pub mod Bytes
+pub mod Fronts
 pub mod Pasted
 pub mod Rules

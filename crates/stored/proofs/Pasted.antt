@@ -6,8 +6,9 @@ use native.Mathlib.Omega.{arith}
 use borrow.Rule.Slice.PartMut.{putMid}
 use lib.ListN.{length, getD, take, drop}
 use Rattle.std.proofs.shelf.Lists.{append-assoc, drop-at, drop-drop, length-append, length-take-le, take-at, take-more}
-use Rattle.stored.specs.Stored.{half-bytes, header-bytes, word-bytes, words-bytes, pasted}
-use Rattle.stored.proofs.Bytes.{length-bytes}
+use Rattle.packing.specs.Packing.{word-bytes, words-bytes}
+use Rattle.stored.specs.Stored.{half-bytes, header-bytes, pasted}
+use Rattle.packing.proofs.Words.{length-bytes}
 
 -- what a copy into a part of the buffer leaves
 pub pasted-is : (old bs part : List ℕ) (at : ℕ) → part ≡ bs → putMid at (at + length bs - at) old part ≡ pasted old at bs

@@ -17,8 +17,9 @@ use Rattle.std.specs.declared.result.Result.the-variants.{Ok, Err}
 use Rattle.stored.specs.declared.rule.LoadFault.{LoadFault}
 use Rattle.stored.specs.declared.rule.LoadFault.the-variants.{Short, Mark, Version, TooManyWords, Length}
 use Rattle.stored.specs.declared.rule.RuleHeader.{RuleHeader}
-use Rattle.stored.specs.Stored.{half-at, is-marked, counted, counts-in, header-in, words-in, Rule, rule-of, stored, body, with-words, loaded}
-use Rattle.stored.proofs.Bytes.{length-words, length-bytes, words-again, bytes-again}
+use Rattle.packing.specs.Packing.{words-in}
+use Rattle.stored.specs.Stored.{half-at, is-marked, counted, counts-in, header-in, Rule, rule-of, stored, body, with-words, loaded}
+use Rattle.packing.proofs.Words.{length-words, length-bytes, words-again, bytes-again}
 
 pub header-is : (bs : List ℕ) (r : Result RuleHeader LoadFault) → 11 ≤ length bs → getD bs 0 0 ≡ 78 → getD bs 1 0 ≡ 83 → getD bs 2 0 ≡ 67 → r ≡ counts-in (take (length bs - 3) (drop 3 bs)) → r ≡ header-in bs
 header-is bs r long a b c e =

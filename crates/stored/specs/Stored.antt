@@ -5,6 +5,7 @@ use mathlib.Core.List.{List, [], _∷_, _++_}
 use Prim.Native.Nat.{ℕ, _+_, _*_, _/_, _%_, _≤_}
 use lib.Dec.{ltb, leb, eqb}
 use lib.ListN.{length, getD, take, drop}
+use Rattle.packing.specs.Packing.{words-bytes, words-in}
 use Rattle.std.specs.declared.result.Result.{Result}
 use Rattle.std.specs.declared.result.Result.the-variants.{Ok, Err}
 use Rattle.stored.specs.declared.rule.LoadFault.{LoadFault}
@@ -45,25 +46,6 @@ counts-in rest =
 
 abbrev pub header-in : List ℕ → Result RuleHeader LoadFault
 header-in bs = cond (ltb (length bs) 11) (Err Short) (cond (is-marked bs) (counts-in (drop 3 bs)) (Err Mark))
-
--- the number in four bytes, and its bytes
-abbrev pub four : ℕ → ℕ → ℕ → ℕ → ℕ
-four a b c d = a + b * 256 + c * 65536 + d * 16777216
-
-abbrev pub word-bytes : ℕ → List ℕ
-word-bytes w = (w % 256) ∷ (w / 256 % 256) ∷ (w / 65536 % 256) ∷ (w / 16777216 % 256) ∷ []
-
--- a rest of fewer than four bytes is no word
-abbrev pub words-in : List ℕ → List ℕ
-words-in [] = []
-words-in (a ∷ []) = []
-words-in (a ∷ b ∷ []) = []
-words-in (a ∷ b ∷ c ∷ []) = []
-words-in (a ∷ b ∷ c ∷ d ∷ rest) = four a b c d ∷ words-in rest
-
-abbrev pub words-bytes : List ℕ → List ℕ
-words-bytes [] = []
-words-bytes (w ∷ ws) = word-bytes w ++ words-bytes ws
 
 pub record Rule : Type 0 where
   pub globals : ℕ

@@ -2,9 +2,10 @@
 ghost use mathlib.Core.List.{_++_};
 ghost use mathlib.Core.Path.{_≡_};
 ghost use Prim.Native.Nat.{_+_, _*_, _≤_};
-ghost use lib.ListN.{length, getD, take, drop};
+ghost use lib.ListN.{length, take, drop};
 ghost use Rattle.std.specs.Vec.{made};
-ghost use Rattle.stored.specs.Stored.{counts-in, filled, half-at, header-in, loading, rule-of, stored, words-in};
+ghost use Rattle.packing.specs.Packing.{words-in};
+ghost use Rattle.stored.specs.Stored.{counts-in, filled, half-at, header-in, loading, rule-of, stored};
 use crate::rule::COUNTS_BYTES;
 use crate::rule::HEADER_BYTES;
 use crate::rule::LoadFault;
@@ -12,6 +13,7 @@ use crate::rule::MOST_WORDS;
 use crate::rule::RuleHeader;
 use crate::rule::VERSION;
 use crate::rule::WORD_BYTES;
+use packing::word_at;
 
 // The number in the two bytes from `at` on.
 fn half(bytes: &[u8], at: usize) -> usize
@@ -55,20 +57,12 @@ fn header(bytes: &[u8]) -> Result<RuleHeader, LoadFault>
     }
 }
 
-fn word_at(bytes: &[u8], i: usize) -> u32
-    requires { ⌜ 4 * i + 4 ≤ length (now bytes) ⌝ }
-    ensures { λ r. ⌜ r ≡ getD (words-in (now (bytes .entry))) i 0 ⌝ }
-{
-    let at = WORD_BYTES * i;
-    u32::from_le_bytes([bytes[at], bytes[at + 1], bytes[at + 2], bytes[at + 3]])
-}
-
 fn read_words(bytes: &[u8], words: &mut [u32], count: usize)
     requires { ⌜ length (now bytes) ≡ 4 * count ⌝ ∗ ⌜ count ≤ length (now words) ⌝ }
     ensures { λ _. ⌜ now (words .exit) ≡ words-in (now (bytes .entry)) ++ drop count (now (words .entry)) ⌝ }
 {
     for i in 0..count {
-        words[i] = word_at(bytes, i);
+        words[i] = word_at(bytes, i).unwrap_or(0);
     }
 }
 

@@ -16,14 +16,14 @@ pub(crate) const HEADER_BYTES: usize = MARK_BYTES + COUNTS_BYTES;
 
 pub(crate) const WORD_BYTES: usize = 4;
 
-#[derive(Clone, Copy, PartialEq, Eq, Debug)]
+#[derive(Clone, Copy)]
 pub struct RuleHeader {
     pub words: usize,
     pub globals: usize,
     pub entry: usize,
 }
 
-#[derive(Clone, Copy, PartialEq, Eq, Debug)]
+#[derive(Clone, Copy)]
 pub enum LoadFault {
     // fewer bytes than a header has
     Short,
@@ -52,7 +52,7 @@ impl LoadFault {
     }
 }
 
-#[derive(Clone, Copy, PartialEq, Eq, Debug)]
+#[derive(Clone, Copy)]
 pub enum StoreFault {
     TooManyWords,
     // more globals than two bytes can say

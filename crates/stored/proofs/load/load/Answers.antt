@@ -7,7 +7,8 @@ use lib.ListN.{length, drop}
 use Rattle.std.proofs.shelf.Lists.{take-rest}
 use Rattle.std.proofs.shelf.Tests.{cond-false, le-ltb}
 use Rattle.std.specs.declared.result.Result.the-variants.{Ok}
-use Rattle.stored.specs.Stored.{body, header-in, with-room, words-in}
+use Rattle.packing.specs.Packing.{words-in}
+use Rattle.stored.specs.Stored.{body, header-in, with-room}
 use Rattle.stored.proofs.Rules.{front-again, good}
 use Rattle.stored.proofs.load.load.Needs as need
 

@@ -2,7 +2,7 @@
 use mathlib.Core.Path.{_≡_}
 use mathlib.Core.List.{_++_}
 use lib.ListN.{take, drop}
-use Rattle.stored.specs.Stored.{words-in}
+use Rattle.packing.specs.Packing.{words-in}
 use Rattle.stored.proofs.load.read_words.Given as given
 
 abbrev pub Inv-loop-i : given.InvT-loop-i

@@ -7,7 +7,7 @@ use lib.ListN.{length, take, drop}
 use Rattle.std.proofs.shelf.Elements.{all-from-getD}
 use Rattle.std.proofs.shelf.Lists.{take-at}
 use Rattle.stored.specs.Stored.{header-bytes, loaded, rule, Storable, stored}
-use Rattle.stored.proofs.Bytes.{length-bytes}
+use Rattle.packing.proofs.Words.{length-bytes}
 use Rattle.stored.proofs.Pasted.{both-parts}
 use Rattle.stored.proofs.Rules.{loaded-again}
 use Rattle.stored.proofs.store.store.Needs as need

@@ -5,7 +5,7 @@ use Prim.Native.Nat.{ℕ, _+_, _*_}
 use native.Mathlib.Omega.{arith}
 use lib.ListN.{length, take, drop}
 use Rattle.std.proofs.shelf.Lists.{take-all}
-use Rattle.stored.specs.Stored.{words-bytes}
+use Rattle.packing.specs.Packing.{words-bytes}
 use Rattle.stored.proofs.Pasted.{word-next}
 use Rattle.stored.proofs.store.write_words.Needs as need
 

@@ -3,7 +3,7 @@ use mathlib.Core.Path.{_≡_}
 use mathlib.Core.List.{_++_}
 use Prim.Native.Nat.{_+_, _*_}
 use lib.ListN.{take, drop}
-use Rattle.stored.specs.Stored.{words-bytes}
+use Rattle.packing.specs.Packing.{words-bytes}
 use Rattle.stored.proofs.store.write_words.Given as given
 
 abbrev pub Inv-loop-i : given.InvT-loop-i

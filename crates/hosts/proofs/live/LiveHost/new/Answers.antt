@@ -4,7 +4,7 @@ use mathlib.Core.List.{List}
 use Prim.Native.Nat.{ℕ}
 use denote.Ref.{RefT}
 use Rattle.runtime.specs.First.{first}
-use Rattle.runtime.specs.Packing.{cells-of}
+use Rattle.packing.specs.Packing.{cells-of}
 use Rattle.hosts.proofs.Accepted.{facts-kept, no-facts}
 use Rattle.hosts.proofs.live.LiveHost.new.Needs as need
 use Rattle.hosts.proofs.live.LiveHost.new.Needs.{in-Ok, in-Err}
@@ -14,8 +14,8 @@ returns c =
     record {
       facts =
           elim (c .match-read .came) [
-            | in-Ok w ↦ ap (λ (s : RefT (List ℕ) × Unit {0}). first 64 (cells-of (s .0 .now))) (w .source-is) ∙ facts-kept (c .args .push .now) _ (w .in-Ok .ensures tt)
-            | in-Err w ↦ ap (λ (s : RefT (List ℕ) × Unit {0}). first 64 (cells-of (s .0 .now))) (w .source-is) ∙ no-facts (c .args .push .now) _ _ (w .in-Err .ensures tt) (w .none-source .ensures)
+            | in-Ok w ↦ ap (λ (s : RefT (List ℕ) × Unit {0}). first 64 (cells-of (s .0 .now))) (w .source-is) ∙ facts-kept (c .args .push .now) _ (w .in-Ok .ensures tt .answer)
+            | in-Err w ↦ ap (λ (s : RefT (List ℕ) × Unit {0}). first 64 (cells-of (s .0 .now))) (w .source-is) ∙ no-facts (c .args .push .now) _ _ (w .in-Err .ensures tt .answer) (w .none-source .ensures)
           ];
       report = search needs;
       spare = search needs;

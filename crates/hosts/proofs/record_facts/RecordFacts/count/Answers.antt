@@ -1,6 +1,6 @@
 use native.Mathlib.Omega.{arith}
-use Rattle.runtime.specs.Packing.{cells-of}
-use Rattle.runtime.proofs.Cells.{length-cells}
+use Rattle.packing.specs.Packing.{cells-of}
+use Rattle.packing.proofs.Cells.{length-cells}
 use Rattle.runtime.proofs.Firsts.{length-first}
 use Rattle.hosts.proofs.record_facts.RecordFacts.count.Needs as need
 

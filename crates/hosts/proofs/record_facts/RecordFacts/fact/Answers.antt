@@ -2,7 +2,7 @@ use mathlib.Core.Path.{sym, _∙_}
 use native.Mathlib.Omega.{arith}
 use Rattle.std.proofs.shelf.Maps.{nth-past}
 use Rattle.runtime.specs.First.{first}
-use Rattle.runtime.specs.Packing.{cells-of}
+use Rattle.packing.specs.Packing.{cells-of}
 use Rattle.runtime.proofs.Firsts.{length-first, nth-within}
 use Rattle.hosts.proofs.record_facts.RecordFacts.fact.Needs as need
 
@@ -12,4 +12,4 @@ returns-then-k-ge64 c =
     sym (nth-past (first 64 (cells-of (c .args .self .now .numbers .now))) (c .args .k) (omega arith))
 
 pub returns : need.returns
-returns c = c .packed-number .ensures ∙ nth-within 64 (cells-of (c .args .self .now .numbers .now)) (c .args .k) (omega arith)
+returns c = c .cell-at .ensures ∙ nth-within 64 (cells-of (c .args .self .now .numbers .now)) (c .args .k) (omega arith)

@@ -1,13 +1,15 @@
--- Words in bytes: how many, which one, and that words and bytes come back from each other.
+-- Numbers in bytes: how many, which one, one that is written, and that numbers and bytes come back from each other.
 use mathlib.Core.Path.{_≡_, refl, sym, ap, _∙_}
 use mathlib.Core.List.{List, [], _∷_, _++_}
 use Prim.Native.Nat.{ℕ, zero, suc, _+_, _-_, _*_, _/_, _%_, _<_, _≤_}
 use native.Mathlib.Omega.{arith}
-use lib.ListN.{length, getD, set, take, drop}
+use lib.ListN.{length, getD, set}
 use Rattle.std.proofs.shelf.Bits.{shr-shr, div-add-mod'}
-use Rattle.std.proofs.shelf.Lists.{append-assoc, drop-more, length-take-le, set-at, take-more}
+use Rattle.std.proofs.shelf.Maps.{nth-getD, nth-past}
 use Rattle.std.specs.shelf.Lists.{All}
-use Rattle.stored.specs.Stored.{four, word-bytes, words-in, words-bytes}
+use Rattle.std.specs.shelf.Maps.{nth}
+use Rattle.std.specs.declared.option.Option.the-variants.{Some, None}
+use Rattle.packing.specs.Packing.{cells-of, four, packed-in, word-bytes, words-in, words-bytes}
 
 pub length-words : (bs : List ℕ) → length (words-in bs) ≡ length bs / 4
 length-words [] = refl
@@ -36,14 +38,6 @@ word-here bs i h =
     let e2 : 4 * i + 2 ≡ suc (suc (4 * i)) = omega arith in
     let e3 : 4 * i + 3 ≡ suc (suc (suc (4 * i))) = omega arith in
     rw (e1, e2, e3) (word-from bs i h)
-
--- one more element at the front of a buffer
-pub front-more : (ws old : List ℕ) (i : ℕ) → i < length ws → i < length old → set (take i ws ++ drop i old) i (getD ws i 0) ≡ take (i + 1) ws ++ drop (i + 1) old
-front-more ws old i h k =
-    ap (λ (r : List ℕ). set (take i ws ++ r) i (getD ws i 0)) (drop-more old i 0 k)
-    ∙ set-at (take i ws) (getD old i 0) (drop (i + 1) old) (getD ws i 0) i (length-take-le i ws (omega arith))
-    ∙ sym (append-assoc (take i ws) (getD ws i 0 ∷ []) (drop (i + 1) old))
-    ∙ ap (λ (p : List ℕ). p ++ drop (i + 1) old) (sym (take-more ws i 0 h))
 
 lin : (n q1 q2 q3 r0 r1 r2 r3 : ℕ) → q1 * 256 + r0 ≡ n → q2 * 256 + r1 ≡ q1 → q3 * 256 + r2 ≡ q2 → r3 ≡ q3 → r0 + r1 * 256 + r2 * 65536 + r3 * 16777216 ≡ n
 lin n q1 q2 q3 r0 r1 r2 r3 a b c d = omega arith
@@ -95,3 +89,32 @@ bytes-again (a ∷ b ∷ c ∷ []) n e h = absurd (omega arith)
 bytes-again (a ∷ b ∷ c ∷ d ∷ rest) n e h =
     ap (λ (r : List ℕ). r ++ words-bytes (words-in rest)) (four-bytes a b c d (h .0) (h .1 .0) (h .1 .1 .0) (h .1 .1 .1 .0))
     ∙ ap (λ (r : List ℕ). a ∷ b ∷ c ∷ d ∷ r) (bytes-again rest (n - 1) (omega arith) (h .1 .1 .1 .1))
+
+pub none-past : (bs : List ℕ) (i : ℕ) → length bs / 4 ≤ i → None ≡ nth (words-in bs) i
+none-past bs i h = let e = length-words bs in sym (nth-past (words-in bs) i (omega arith))
+
+pub some-at : (bs : List ℕ) (i w : ℕ) → i < length bs / 4 → w ≡ four (getD bs (4 * i) 0) (getD bs (4 * i + 1) 0) (getD bs (4 * i + 2) 0) (getD bs (4 * i + 3) 0) → Some w ≡ nth (words-in bs) i
+some-at bs i w h e =
+    let l = length-words bs in
+    ap Some (e ∙ word-here bs i (omega arith)) ∙ sym (nth-getD (words-in bs) i 0 (omega arith))
+
+abbrev put4 : List ℕ → ℕ → ℕ → ℕ → ℕ → ℕ → List ℕ
+put4 bs k a b c d = set (set (set (set bs k a) (suc k) b) (suc (suc k)) c) (suc (suc (suc k))) d
+
+word-put : (bs : List ℕ) (i a b c d : ℕ) → 4 * i + 3 < length bs → words-in (put4 bs (4 * i) a b c d) ≡ set (words-in bs) i (four a b c d)
+word-put [] i p q r s h = absurd (omega arith)
+word-put (a ∷ []) i p q r s h = absurd (omega arith)
+word-put (a ∷ b ∷ []) i p q r s h = absurd (omega arith)
+word-put (a ∷ b ∷ c ∷ []) i p q r s h = absurd (omega arith)
+word-put (a ∷ b ∷ c ∷ d ∷ rest) zero p q r s h = refl
+word-put (a ∷ b ∷ c ∷ d ∷ rest) (suc i) p q r s h =
+    let e : 4 * suc i ≡ suc (suc (suc (suc (4 * i)))) = omega arith in
+    ap (λ (k : ℕ). words-in (put4 (a ∷ b ∷ c ∷ d ∷ rest) k p q r s)) e ∙ ap (λ (l : List ℕ). four a b c d ∷ l) (word-put rest i p q r s (omega arith))
+
+-- a number that is written in its four bytes
+pub words-packed-in : (bs : List ℕ) (i w : ℕ) → w < 4294967296 → i < length bs / 4 → words-in (packed-in bs i w) ≡ set (words-in bs) i w
+words-packed-in bs i w f h =
+    let e1 : 4 * i + 1 ≡ suc (4 * i) = omega arith in
+    let e2 : 4 * i + 2 ≡ suc (suc (4 * i)) = omega arith in
+    let e3 : 4 * i + 3 ≡ suc (suc (suc (4 * i))) = omega arith in
+    rw (e1, e2, e3) (word-put bs i (w % 256) (w / 256 % 256) (w / 65536 % 256) (w / 16777216 % 256) (omega arith) ∙ ap (set (words-in bs) i) (digits w f))
