@@ -1,6 +1,5 @@
 -- A record and its facts make each other.
 use mathlib.Core.Path.{_≡_, refl, sym, ap, _∙_}
-use mathlib.Core.Bool.{Bool, cond, _&&_}
 use mathlib.Core.List.{List, [], _∷_, map}
 use Prim.Native.Nat.{ℕ, _+_, _*_, _≤_, _<_}
 use native.Mathlib.Omega.{arith}
@@ -19,8 +18,8 @@ use Rattle.packing.specs.Packing.{cells-of, words-bytes, words-in}
 use Rattle.packing.proofs.Cells.{length-cells}
 use Rattle.packing.proofs.Words.{bytes-again, length-bytes, words-again}
 use Rattle.runtime.specs.First.{first}
-use Rattle.hosts.specs.Records.{body, facts-in, facts-or-none, marked, record-bytes, Sent, told-count, version}
-use Rattle.hosts.specs.declared.record.RecordFault.the-variants.{Short, Mark, Version, TooManyFacts, Length}
+use Rattle.hosts.specs.Records.{body, facts-or-none, record-bytes, Sent, told-count, version}
+use Rattle.hosts.specs.declared.record.RecordFault.the-variants.{Short, TooManyFacts, Length}
 use Rattle.hosts.proofs.Accepted.{all-within, sound}
 
 -- numbers of four bytes

@@ -1,12 +1,7 @@
 // The live host's calls.
-ghost use mathlib.Core.Bool.{cond};
-ghost use mathlib.Core.List.{List, [], _∷_, _++_};
 ghost use mathlib.Core.Path.{_≡_};
-ghost use Prim.Native.Nat.{ℕ};
 ghost use denote.Ref.{name};
-ghost use lib.Dec.{ltb};
-ghost use lib.ListN.{length, take, drop, set};
-ghost use Rattle.std.specs.Results.{isOk};
+ghost use lib.ListN.{length, take, drop};
 ghost use Rattle.hosts.specs.Live.{facts-of, place-of, report-of, spare-of};
 ghost use Rattle.hosts.specs.Records.{facts-in};
 use crate::live::LiveHost;

@@ -1,11 +1,8 @@
 // The rehearsal host's calls.
-ghost use mathlib.Core.Bool.{cond};
-ghost use mathlib.Core.List.{List, [], _∷_, _++_};
+ghost use mathlib.Core.List.{[]};
 ghost use mathlib.Core.Path.{_≡_};
-ghost use Prim.Native.Nat.{ℕ, _≤_, min};
-ghost use lib.Dec.{ltb};
-ghost use lib.ListN.{length, take, drop, replicate, set};
-ghost use Rattle.std.specs.Results.{isOk};
+ghost use Prim.Native.Nat.{min};
+ghost use lib.ListN.{length, take, replicate};
 ghost use Rattle.runtime.specs.First.{first};
 ghost use Rattle.hosts.specs.Rehearsal.{facts-of, report-of, spare-of};
 use crate::rehearsal::RehearsalHost;

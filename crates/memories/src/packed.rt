@@ -2,7 +2,7 @@
 // whole four, are never read or written.
 ghost use mathlib.Core.Bool.{cond};
 ghost use mathlib.Core.Path.{_≡_};
-ghost use Prim.Native.Nat.{ℕ, _≤_, _/_};
+ghost use Prim.Native.Nat.{_≤_, _/_};
 ghost use denote.Ref.{name};
 ghost use lib.Dec.{ltb};
 ghost use mir.Syntax.{w32};

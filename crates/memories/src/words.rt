@@ -1,7 +1,7 @@
 // A memory over words: a cell each, 65,536 at most. Words past these are never read or written.
 ghost use mathlib.Core.Bool.{cond};
 ghost use mathlib.Core.Path.{_≡_};
-ghost use Prim.Native.Nat.{ℕ, _≤_};
+ghost use Prim.Native.Nat.{_≤_};
 ghost use denote.Ref.{name};
 ghost use lib.Dec.{ltb};
 ghost use lib.ListN.{length, set};

@@ -9,7 +9,7 @@ use Rattle.std.proofs.shelf.Maps.{nth-getD, nth-past}
 use Rattle.std.specs.shelf.Lists.{All}
 use Rattle.std.specs.shelf.Maps.{nth}
 use Rattle.std.specs.declared.option.Option.the-variants.{Some, None}
-use Rattle.packing.specs.Packing.{cells-of, four, packed-in, word-bytes, words-in, words-bytes}
+use Rattle.packing.specs.Packing.{four, packed-in, word-bytes, words-in, words-bytes}
 
 pub length-words : (bs : List ℕ) → length (words-in bs) ≡ length bs / 4
 length-words [] = refl

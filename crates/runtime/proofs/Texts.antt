@@ -52,7 +52,7 @@ pub digits-on : (rep one two : List ℕ) (n : ℕ) → 10 ≤ n → n < 2 ^ 64 �
 digits-on rep one two n h w e f =
     f ∙ ap (λ x. x ++ ((48 + n % 10) ∷ [])) e ∙ append-assoc rep (decimal (n / 10)) ((48 + n % 10) ∷ []) ∙ sym (ap (λ x. rep ++ x) (decimal-step n h w))
 
-pub text-negative : (v : ℤ) (n most : ℕ) (rep one two : List ℕ) → v <ℤ pos 0 → n ≡ natAbs v → length rep + length (decimal n) < most → one ≡ rep ++ (45 ∷ []) → two ≡ one ++ decimal n → _≡_ {A = Reported} (record { result = Ok v; report = two }) (number-written most rep v)
+pub text-negative : (v : ℤ) (n most : ℕ) (rep one two : List ℕ) → v <ℤ pos 0 → n ≡ natAbs v → length rep + length (decimal n) < most → one ≡ rep ++ (45 ∷ []) → two ≡ one ++ decimal n → _≡_ {A = Reported} (record { result = Ok v; report = two }) (number-written v most rep)
 text-negative (pos k) n most rep one two h e w f g = absurd (omega (arith, ints))
 text-negative (negsuc k) n most rep one two h e w f g =
     let z : length (decimal n) ≡ length (decimal (suc k)) = ap (λ x. length (decimal x)) e in
@@ -60,11 +60,11 @@ text-negative (negsuc k) n most rep one two h e w f g =
     ap (λ (x : List ℕ). record { result = Ok (negsuc k); report = x }) t ∙ sym (cond-true _ _ _ (le-leb (length rep + length (45 ∷ decimal (suc k))) most (omega arith)))
 
 -- a byte that was in range, and found room
-pub byte-there : (v w : ℤ) (b most : ℕ) (rep rep′ : List ℕ) → w ≡ v → Unsigned 8 w → b ≡ natAbs w → length rep < most → rep′ ≡ rep ++ (b ∷ []) → _≡_ {A = Reported} (record { result = Ok w; report = rep′ }) (byte-written most rep v)
+pub byte-there : (v w : ℤ) (b most : ℕ) (rep rep′ : List ℕ) → w ≡ v → Unsigned 8 w → b ≡ natAbs w → length rep < most → rep′ ≡ rep ++ (b ∷ []) → _≡_ {A = Reported} (record { result = Ok w; report = rep′ }) (byte-written v most rep)
 byte-there v (pos n) b most rep rep′ z u e h t =
     let s : rep′ ≡ rep ++ (n ∷ []) = t ∙ ap (λ (x : ℕ). rep ++ (x ∷ [])) e in
     ap (λ (x : List ℕ). record { result = Ok (pos n); report = x }) s
     ∙ sym (cond-true _ _ _ (le-leb (length rep + 1) most (omega arith)))
     ∙ sym (cond-true _ _ _ (lt-ltb n 256 u))
-    ∙ ap (byte-written most rep) z
+    ∙ ap (λ (x : ℤ). byte-written x most rep) z
 byte-there v (negsuc n) b most rep rep′ z u e h t = absurd u

@@ -1,11 +1,11 @@
 // Memory below the top. `top` says how many cells are in use; one past the memory's end counts as its end.
-ghost use lib.IntN.{ℤ, pos};
+ghost use lib.IntN.{pos};
 ghost use lib.ListN.{length, take, getD, set, replicate};
 ghost use mathlib.Core.Bool.{cond};
 ghost use mathlib.Core.List.{_++_};
 ghost use mathlib.Core.Path.{_≡_};
-ghost use Prim.Native.Nat.{ℕ, _≤_, _<_, _-_};
-ghost use Rattle.runtime.specs.Access.{nth-integer, inside, set-integer, grown, fetched, stored, Effect};
+ghost use Prim.Native.Nat.{_≤_, _<_, _-_};
+ghost use Rattle.runtime.specs.Access.{nth-integer, inside, set-integer, grown, fetched, stored};
 ghost use Rattle.runtime.specs.Meanings.{Kept};
 use crate::memory::Memory;
 use crate::operator::wrapped_sum;
@@ -14,10 +14,9 @@ use crate::stop::Stop;
 fn read_at<M: Memory>(memory: &M, top: usize, address: i32) -> Option<i32>
     ensures { λ r. ⌜ r ≡ nth-integer (take top (cells (now (memory .entry)))) address ⌝ }
 {
-    if address < 0 {
+    let Ok(i) = usize::try_from(address) else {
         return None;
-    }
-    let i = address as usize;
+    };
     if i < top { memory.read(i) } else { None }
 }
 
@@ -27,10 +26,9 @@ fn write_at<M: Memory>(memory: &mut M, top: usize, address: i32, value: i32) -> 
     ensures kept { λ r. ⌜ Kept top (cells (now (memory .entry))) top (cells (now (memory .exit))) ⌝ }
     ensures around { λ _. ⌜ M·Memory .around (now (memory .exit)) ≡ M·Memory .around (now (memory .entry)) ⌝ }
 {
-    if address < 0 {
+    let Ok(i) = usize::try_from(address) else {
         return false;
-    }
-    let i = address as usize;
+    };
     if i >= top {
         return false;
     }

@@ -1,9 +1,6 @@
 // The three system calls: a number or a byte for the report, a fact about the push.
-ghost use lib.IntN.{ℤ};
-ghost use mathlib.Core.List.{List};
 ghost use mathlib.Core.Path.{_≡_};
-ghost use Rattle.runtime.specs.Meanings.{Spared};
-ghost use Rattle.runtime.specs.System.{Reported, byte-written, capacity, fact-told, number-written};
+ghost use Rattle.runtime.specs.System.{byte-written, fact-told, Grew, number-written, Writes};
 use crate::host::Facts;
 use crate::host::PushHost;
 use crate::stop::Stop;
@@ -12,8 +9,8 @@ use crate::text::put_digits;
 
 // Sys 1: the number in decimal, whole, or no byte of it.
 pub fn write_number<H: PushHost>(host: &mut H, value: i32) -> Result<i32, Stop>
-    ensures does { λ r. ⌜ record { result = r; report = H·PushHost .report (now (host .exit)) } ≡ number-written (capacity (H·PushHost .report (now (host .entry))) (H·PushHost .spare (now (host .entry)))) (H·PushHost .report (now (host .entry))) value ⌝ }
-    ensures spared { λ r. ⌜ Spared (H·PushHost .report (now (host .entry))) (H·PushHost .spare (now (host .entry))) (H·PushHost .report (now (host .exit))) (H·PushHost .spare (now (host .exit))) ⌝ }
+    ensures does { λ r. ⌜ Writes (H·PushHost .report) (H·PushHost .spare) (now (host .entry)) (now (host .exit)) (number-written value) r ⌝ }
+    ensures spared { λ r. ⌜ Grew (H·PushHost .report) (H·PushHost .spare) (now (host .entry)) (now (host .exit)) ⌝ }
     ensures facts { λ r. ⌜ H·Facts .facts (now (host .exit)) ≡ H·Facts .facts (now (host .entry)) ⌝ }
     ensures place { λ _. ⌜ H·PushHost .place (now (host .exit)) ≡ H·PushHost .place (now (host .entry)) ⌝ }
 {
@@ -35,8 +32,8 @@ pub fn write_number<H: PushHost>(host: &mut H, value: i32) -> Result<i32, Stop>
 
 // Sys 2: one byte.
 pub fn write_byte<H: PushHost>(host: &mut H, value: i32) -> Result<i32, Stop>
-    ensures does { λ r. ⌜ record { result = r; report = H·PushHost .report (now (host .exit)) } ≡ byte-written (capacity (H·PushHost .report (now (host .entry))) (H·PushHost .spare (now (host .entry)))) (H·PushHost .report (now (host .entry))) value ⌝ }
-    ensures spared { λ r. ⌜ Spared (H·PushHost .report (now (host .entry))) (H·PushHost .spare (now (host .entry))) (H·PushHost .report (now (host .exit))) (H·PushHost .spare (now (host .exit))) ⌝ }
+    ensures does { λ r. ⌜ Writes (H·PushHost .report) (H·PushHost .spare) (now (host .entry)) (now (host .exit)) (byte-written value) r ⌝ }
+    ensures spared { λ r. ⌜ Grew (H·PushHost .report) (H·PushHost .spare) (now (host .entry)) (now (host .exit)) ⌝ }
     ensures facts { λ r. ⌜ H·Facts .facts (now (host .exit)) ≡ H·Facts .facts (now (host .entry)) ⌝ }
     ensures place { λ _. ⌜ H·PushHost .place (now (host .exit)) ≡ H·PushHost .place (now (host .entry)) ⌝ }
 {

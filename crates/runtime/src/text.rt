@@ -2,9 +2,9 @@
 ghost use lib.ListN.{length};
 ghost use mathlib.Core.List.{_++_};
 ghost use mathlib.Core.Path.{_≡_};
-ghost use Prim.Native.Nat.{ℕ, _≤_, _+_};
+ghost use Prim.Native.Nat.{_≤_, _+_};
 ghost use Rattle.std.specs.Written.{decimal};
-ghost use Rattle.runtime.specs.Meanings.{Spared};
+ghost use Rattle.runtime.specs.System.{Grew};
 use crate::host::PushHost;
 
 // How many digits n has.
@@ -19,7 +19,7 @@ pub(crate) fn digit_count(n: u32) -> usize
 pub(crate) fn put_digits<H: PushHost>(host: &mut H, n: u32)
     requires { ⌜ length (decimal n) ≤ length (H·PushHost .spare (now host)) ⌝ }
     ensures after { λ _. ⌜ H·PushHost .report (now (host .exit)) ≡ H·PushHost .report (now (host .entry)) ++ decimal n ⌝ }
-    ensures spared { λ _. ⌜ Spared (H·PushHost .report (now (host .entry))) (H·PushHost .spare (now (host .entry))) (H·PushHost .report (now (host .exit))) (H·PushHost .spare (now (host .exit))) ⌝ }
+    ensures spared { λ _. ⌜ Grew (H·PushHost .report) (H·PushHost .spare) (now (host .entry)) (now (host .exit)) ⌝ }
     ensures facts { λ _. ⌜ H·Facts .facts (now (host .exit)) ≡ H·Facts .facts (now (host .entry)) ⌝ }
     ensures place { λ _. ⌜ H·PushHost .place (now (host .exit)) ≡ H·PushHost .place (now (host .entry)) ⌝ }
 {

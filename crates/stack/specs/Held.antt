@@ -1,14 +1,11 @@
 -- A stack by its cells and its depth, and what it holds from the top down.
 use base.Fml.{GName}
 use denote.Ref.{name}
-use mathlib.Core.Bool.{cond}
 use mathlib.Core.List.{List, [], _∷_, reverse}
 use Prim.Native.Nat.{ℕ, _-_}
-use lib.ListN.{take, length, drop}
+use lib.ListN.{take}
 use Rattle.std.specs.declared.option.Option.{Option}
 use Rattle.std.specs.declared.option.Option.the-variants.{Some, None}
-use Rattle.std.specs.declared.result.Result.{Result}
-use Rattle.std.specs.declared.result.Result.the-variants.{Ok, Err}
 use Rattle.stack.specs.declared.Stack.{Stack}
 
 module _ {T : Type 0} where

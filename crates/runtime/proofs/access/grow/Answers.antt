@@ -1,15 +1,14 @@
 use borrow.Author.Needs.{needs}
 use mathlib.Core.Path.{_≡_, ap, subst, _∙_}
-use Prim.Native.Nat.{ℕ, _+_, _≤_, min}
+use Prim.Native.Nat.{ℕ, _+_, _≤_}
 use native.Mathlib.Omega.{arith}
 use lib.IntN.{ℤ, natAbs, pos}
-use lib.ListN.{length, take}
+use lib.ListN.{take}
 use lib.Signed.{_≤ℤ_}
 use mir.Syntax.{w32}
 use mir.Val.{toZ, ofZ}
 use Rattle.std.specs.declared.result.Result.the-variants.{Ok}
 use Rattle.std.proofs.shelf.Signed.{toZ-ofZ, ints}
-use Rattle.runtime.specs.Access.{Effect}
 use Rattle.runtime.specs.Meanings.{Kept}
 use Rattle.runtime.proofs.Below.{grown-full, grown-more, kept-refl}
 use Rattle.runtime.proofs.access.grow.Needs as need

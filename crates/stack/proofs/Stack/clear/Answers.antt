@@ -2,7 +2,7 @@ use borrow.Author.Needs.{needs}
 use mathlib.Core.List.{List}
 use mathlib.Core.Path.{_≡_, ap, _∙_}
 use native.Mathlib.Omega.{arith}
-use lib.ListN.{length, length-set, set}
+use lib.ListN.{length-set, set}
 use Rattle.stack.proofs.Tops.{wiped-all, wiped-more}
 use Rattle.stack.proofs.Stack.clear.Needs as need
 

@@ -1,5 +1,4 @@
 use borrow.Author.Needs.{needs}
-use native.Mathlib.Omega.{arith}
 use lib.ListN.{length-drop}
 use Rattle.std.proofs.shelf.Lists.{take-more-set}
 use Rattle.hosts.proofs.Buffers.{drop-more-set}

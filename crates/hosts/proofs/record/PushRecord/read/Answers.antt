@@ -1,5 +1,5 @@
 use borrow.Author.Needs.{needs}
-use mathlib.Core.Path.{_≡_, ap, _∙_}
+use mathlib.Core.Path.{_≡_}
 use lib.Seq.{getD-take, getD-drop}
 use Rattle.std.specs.declared.result.Result.the-variants.{Ok}
 use Rattle.hosts.specs.Records.{body}

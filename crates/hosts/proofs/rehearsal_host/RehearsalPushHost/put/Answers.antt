@@ -1,5 +1,4 @@
 use borrow.Author.Needs.{needs}
-use native.Mathlib.Omega.{arith}
 use lib.ListN.{length-drop}
 use lib.Seq.{take-set-lt}
 use Rattle.std.proofs.shelf.Lists.{length-take, take-more-set}
