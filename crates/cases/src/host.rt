@@ -1,18 +1,15 @@
 // `host live CAPACITY HEX ACTION..` and `host rehearsal CAPACITY FACT.. : ACTION..`: a host's answers, and its report.
+use crate::line::Line;
 use crate::number::hex_bytes;
-use crate::number::push_bytes;
-use crate::number::push_number;
-use crate::number::push_size;
-use crate::number::push_text;
 use crate::number::room;
 use crate::number::signed;
 use crate::number::size;
-use hosts::LiveFacts;
-use hosts::LivePushHost;
-use hosts::RehearsalFacts;
-use hosts::RehearsalPushHost;
-use hosts::live::LiveHost;
-use hosts::rehearsal::RehearsalHost;
+use live_host::LiveFacts;
+use live_host::LivePushHost;
+use live_host::live::LiveHost;
+use rehearsal_host::RehearsalFacts;
+use rehearsal_host::RehearsalPushHost;
+use rehearsal_host::rehearsal::RehearsalHost;
 use runtime::host::Facts;
 use runtime::host::PushHost;
 use runtime::system::write_number;
@@ -55,46 +52,43 @@ fn heard(said: Said, word: &str) -> Option<(Said, Option<Action>)> {
     Some((Said::Nothing, Some(action)))
 }
 
-fn push_done(out: &mut String, done: bool) -> Result<(), AllocError> {
-    push_text(out, if done { "ok" } else { "no" })
+fn tell_done(done: bool, line: &mut Line) {
+    line.word(if done { "ok" } else { "no" });
 }
 
-fn perform<H: PushHost>(host: &mut H, action: Action, out: &mut String) -> Result<(), AllocError> {
+fn perform<H: PushHost>(host: &mut H, action: Action, line: &mut Line) {
     match action {
-        Action::Byte(b) => push_done(out, host.put(b).is_ok()),
-        Action::Number(n) => push_done(out, write_number(host, n).is_ok()),
+        Action::Byte(b) => tell_done(host.put(b).is_ok(), line),
+        Action::Number(n) => tell_done(write_number(host, n).is_ok(), line),
         Action::Fact(k) => match host.fact(k) {
-            Some(fact) => push_number(out, fact),
-            None => push_text(out, "none"),
+            Some(fact) => line.number(fact),
+            None => line.word("none"),
         },
-        Action::Space => push_size(out, host.space()),
-        Action::Count => push_size(out, host.count()),
+        Action::Space => line.size(host.space()),
+        Action::Count => line.size(host.count()),
     }
 }
 
-fn performed<H: PushHost>(
-    host: &mut H,
-    words: &[&str],
-    out: &mut String,
-) -> Result<bool, AllocError> {
+// False where the words say no actions.
+fn performed<H: PushHost>(host: &mut H, words: &[&str], line: &mut Line) -> bool {
     let mut said = Said::Nothing;
     for word in words {
         let Some((now, action)) = heard(said, word) else {
-            return Ok(false);
+            return false;
         };
         said = now;
         if let Some(action) = action {
-            perform(host, action, out)?;
+            perform(host, action, line);
         }
     }
-    Ok(matches!(said, Said::Nothing))
+    matches!(said, Said::Nothing)
 }
 
 fn live_case(
     heap: Global,
     capacity: usize,
     words: &[&str],
-    out: &mut String,
+    line: &mut Line,
 ) -> Result<bool, AllocError> {
     let [text, actions @ ..] = words else {
         return Ok(false);
@@ -104,9 +98,9 @@ fn live_case(
     };
     let mut buffer = vec![in heap; 0u8; capacity]?;
     let mut host = LiveHost::new(&record, &mut buffer, 0);
-    let readable = performed(&mut host, actions, out)?;
+    let readable = performed(&mut host, actions, line);
     let length = host.report_len();
-    push_bytes(out, &buffer, length)?;
+    line.bytes(&buffer, length);
     Ok(readable)
 }
 
@@ -133,23 +127,19 @@ fn rehearsal_case(
     heap: Global,
     capacity: usize,
     words: &[&str],
-    out: &mut String,
+    line: &mut Line,
 ) -> Result<bool, AllocError> {
     let Some((facts, actions)) = facts_of(heap, words)? else {
         return Ok(false);
     };
     let mut host = RehearsalHost::new(&facts, capacity);
-    let readable = performed(&mut host, actions, out)?;
+    let readable = performed(&mut host, actions, line);
     let report = host.report();
-    push_bytes(out, report, report.len())?;
+    line.bytes(report, report.len());
     Ok(readable)
 }
 
-pub(crate) fn host_case(
-    heap: Global,
-    words: &[&str],
-    out: &mut String,
-) -> Result<bool, AllocError> {
+pub(crate) fn host_case(heap: Global, words: &[&str], line: &mut Line) -> Result<bool, AllocError> {
     let [kind, capacity, rest @ ..] = words else {
         return Ok(false);
     };
@@ -157,8 +147,8 @@ pub(crate) fn host_case(
         return Ok(false);
     };
     match *kind {
-        "live" => live_case(heap, capacity, rest, out),
-        "rehearsal" => rehearsal_case(heap, capacity, rest, out),
+        "live" => live_case(heap, capacity, rest, line),
+        "rehearsal" => rehearsal_case(heap, capacity, rest, line),
         _ => Ok(false),
     }
 }

@@ -1,6 +1,7 @@
 // The bench: one case a line from standard input, one line of answer each. A line it cannot read gives `? LINE`.
 mod answer;
 mod host;
+mod line;
 mod memory;
 mod number;
 mod record;

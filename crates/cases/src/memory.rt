@@ -1,8 +1,5 @@
 // `memory words|packed LENGTH ACTION..`: reads and writes, and the buffer after them.
-use crate::number::push_bytes;
-use crate::number::push_number;
-use crate::number::push_size;
-use crate::number::push_text;
+use crate::line::Line;
 use crate::number::room;
 use crate::number::signed;
 use crate::number::size;
@@ -43,53 +40,50 @@ fn heard(said: Said, word: &str) -> Option<(Said, Option<Action>)> {
     }
 }
 
-fn perform<M: Memory>(memory: &mut M, action: Action, out: &mut String) -> Result<(), AllocError> {
+fn perform<M: Memory>(memory: &mut M, action: Action, line: &mut Line) {
     match action {
         Action::Read(i) => match memory.read(i) {
-            Some(value) => push_number(out, value),
-            None => push_text(out, "none"),
+            Some(value) => line.number(value),
+            None => line.word("none"),
         },
         Action::Write(i, value) => match memory.write(i, value) {
-            Ok(()) => push_text(out, "ok"),
-            Err(_) => push_text(out, "no"),
+            Ok(()) => line.word("ok"),
+            Err(_) => line.word("no"),
         },
     }
 }
 
-fn performed<M: Memory>(
-    memory: &mut M,
-    words: &[&str],
-    out: &mut String,
-) -> Result<bool, AllocError> {
-    push_text(out, "cells")?;
-    push_size(out, memory.len())?;
+// False where the words say no actions.
+fn performed<M: Memory>(memory: &mut M, words: &[&str], line: &mut Line) -> bool {
+    line.word("cells");
+    line.size(memory.len());
     let mut said = Said::Nothing;
     for word in words {
         let Some((now, action)) = heard(said, word) else {
-            return Ok(false);
+            return false;
         };
         said = now;
         if let Some(action) = action {
-            perform(memory, action, out)?;
+            perform(memory, action, line);
         }
     }
-    Ok(matches!(said, Said::Nothing))
+    matches!(said, Said::Nothing)
 }
 
 fn words_case(
     heap: Global,
     length: usize,
     actions: &[&str],
-    out: &mut String,
+    line: &mut Line,
 ) -> Result<bool, AllocError> {
     let mut cells = vec![in heap; 7i32; length]?;
     let mut memory = Words { cells: &mut cells };
-    let readable = performed(&mut memory, actions, out)?;
+    let readable = performed(&mut memory, actions, line);
     if cells.is_empty() {
-        push_text(out, "-")?;
+        line.word("-");
     }
     for cell in &cells {
-        push_number(out, *cell)?;
+        line.number(*cell);
     }
     Ok(readable)
 }
@@ -98,19 +92,19 @@ fn packed_case(
     heap: Global,
     length: usize,
     actions: &[&str],
-    out: &mut String,
+    line: &mut Line,
 ) -> Result<bool, AllocError> {
     let mut bytes = vec![in heap; 7u8; length]?;
     let mut memory = Packed { bytes: &mut bytes };
-    let readable = performed(&mut memory, actions, out)?;
-    push_bytes(out, &bytes, length)?;
+    let readable = performed(&mut memory, actions, line);
+    line.bytes(&bytes, length);
     Ok(readable)
 }
 
 pub(crate) fn memory_case(
     heap: Global,
     words: &[&str],
-    out: &mut String,
+    line: &mut Line,
 ) -> Result<bool, AllocError> {
     let [kind, length, actions @ ..] = words else {
         return Ok(false);
@@ -119,8 +113,8 @@ pub(crate) fn memory_case(
         return Ok(false);
     };
     match *kind {
-        "words" => words_case(heap, length, actions, out),
-        "packed" => packed_case(heap, length, actions, out),
+        "words" => words_case(heap, length, actions, line),
+        "packed" => packed_case(heap, length, actions, line),
         _ => Ok(false),
     }
 }

@@ -1,8 +1,6 @@
-// Numbers and bytes as a line writes them, and as an answer does.
+// Numbers and bytes as a line writes them.
 use std::alloc::AllocError;
 use std::alloc::Global;
-use std::fmt;
-use std::fmt::Write;
 
 // The most cells, words or bytes that a line may ask for.
 const MOST_ROOM: usize = 1_000_000;
@@ -67,60 +65,4 @@ pub(crate) fn hex_bytes(heap: Global, text: &str) -> Result<Option<Vec<u8>>, All
         return Ok(None);
     }
     Ok(Some(bytes))
-}
-
-// A string refuses a text only for want of memory.
-fn written(result: fmt::Result) -> Result<(), AllocError> {
-    match result {
-        Ok(()) => Ok(()),
-        Err(_) => Err(AllocError),
-    }
-}
-
-// A blank between two words of an answer.
-fn part(out: &mut String) -> Result<(), AllocError> {
-    if out.is_empty() {
-        return Ok(());
-    }
-    out.push_str(" ")
-}
-
-pub(crate) fn push_text(out: &mut String, text: &str) -> Result<(), AllocError> {
-    part(out)?;
-    out.push_str(text)
-}
-
-pub(crate) fn push_number(out: &mut String, n: i32) -> Result<(), AllocError> {
-    part(out)?;
-    written(write!(out, "{n}"))
-}
-
-pub(crate) fn push_size(out: &mut String, n: usize) -> Result<(), AllocError> {
-    part(out)?;
-    written(write!(out, "{n}"))
-}
-
-// The word in hexadecimal.
-pub(crate) fn push_word(out: &mut String, word: u32) -> Result<(), AllocError> {
-    part(out)?;
-    written(write!(out, "{word:08x}"))
-}
-
-// The first `length` bytes in hexadecimal, `-` for none.
-pub(crate) fn push_bytes(out: &mut String, bytes: &[u8], length: usize) -> Result<(), AllocError> {
-    if length == 0 {
-        return push_text(out, "-");
-    }
-    part(out)?;
-    for b in bytes.iter().take(length) {
-        written(write!(out, "{b:02x}"))?;
-    }
-    Ok(())
-}
-
-// `refused N`, the number that the call gave.
-pub(crate) fn push_refused(out: &mut String, number: u8) -> Result<bool, AllocError> {
-    push_text(out, "refused")?;
-    push_size(out, number as usize)?;
-    Ok(true)
 }

@@ -1,31 +1,28 @@
 // `record HEX`: the facts of a push record.
+use crate::line::Line;
 use crate::number::hex_bytes;
-use crate::number::push_number;
-use crate::number::push_refused;
-use crate::number::push_text;
-use hosts::RecordFacts;
-use hosts::record::PushRecord;
+use live_host::RecordFacts;
+use live_host::record::PushRecord;
 use runtime::host::Facts;
 use std::alloc::AllocError;
 use std::alloc::Global;
 
-fn push_facts(out: &mut String, record: PushRecord<'_>) -> Result<bool, AllocError> {
-    push_text(out, "facts")?;
+fn tell_facts(record: PushRecord<'_>, line: &mut Line) {
+    line.word("facts");
     if record.count() == 0 {
-        push_text(out, "-")?;
+        line.word("-");
     }
     for k in 0..record.count() {
         if let Some(fact) = record.fact(k) {
-            push_number(out, fact)?;
+            line.number(fact);
         }
     }
-    Ok(true)
 }
 
 pub(crate) fn record_case(
     heap: Global,
     words: &[&str],
-    out: &mut String,
+    line: &mut Line,
 ) -> Result<bool, AllocError> {
     let [text] = words else {
         return Ok(false);
@@ -34,7 +31,8 @@ pub(crate) fn record_case(
         return Ok(false);
     };
     match PushRecord::read(&bytes) {
-        Ok(record) => push_facts(out, record),
-        Err(fault) => push_refused(out, fault.number()),
+        Ok(record) => tell_facts(record, line),
+        Err(fault) => line.refused(fault.number()),
     }
+    Ok(true)
 }

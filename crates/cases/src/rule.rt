@@ -1,11 +1,7 @@
 // `load ROOM HEX` and `store ROOM GLOBALS ENTRY WORD..`: the stored rule.
+use crate::line::Line;
 use crate::number::hex_bytes;
 use crate::number::hex_word;
-use crate::number::push_bytes;
-use crate::number::push_refused;
-use crate::number::push_size;
-use crate::number::push_text;
-use crate::number::push_word;
 use crate::number::room;
 use crate::number::size;
 use std::alloc::AllocError;
@@ -14,24 +10,19 @@ use stored::load::load;
 use stored::rule::RuleHeader;
 use stored::store::store;
 
-fn push_rule(out: &mut String, header: RuleHeader, words: &[u32]) -> Result<bool, AllocError> {
-    push_text(out, "rule")?;
-    push_size(out, header.globals)?;
-    push_size(out, header.entry)?;
+fn tell_rule(header: RuleHeader, words: &[u32], line: &mut Line) {
+    line.word("rule");
+    line.size(header.globals);
+    line.size(header.entry);
     if header.words == 0 {
-        push_text(out, "-")?;
+        line.word("-");
     }
     for word in words.iter().take(header.words) {
-        push_word(out, *word)?;
+        line.hex_word(*word);
     }
-    Ok(true)
 }
 
-pub(crate) fn load_case(
-    heap: Global,
-    texts: &[&str],
-    out: &mut String,
-) -> Result<bool, AllocError> {
+pub(crate) fn load_case(heap: Global, texts: &[&str], line: &mut Line) -> Result<bool, AllocError> {
     let [space, text] = texts else {
         return Ok(false);
     };
@@ -43,9 +34,10 @@ pub(crate) fn load_case(
     };
     let mut words = vec![in heap; 0u32; space]?;
     match load(&bytes, &mut words) {
-        Ok(header) => push_rule(out, header, &words),
-        Err(fault) => push_refused(out, fault.number()),
+        Ok(header) => tell_rule(header, &words, line),
+        Err(fault) => line.refused(fault.number()),
     }
+    Ok(true)
 }
 
 // The words of a line, `-` for none.
@@ -63,15 +55,20 @@ fn words_of(heap: Global, texts: &[&str]) -> Result<Option<Vec<u32>>, AllocError
     Ok(Some(words))
 }
 
+// The output's room, the globals and the entry address.
+fn sizes_of(space: &str, globals: &str, entry: &str) -> Option<(usize, usize, usize)> {
+    Some((room(space)?, size(globals)?, size(entry)?))
+}
+
 pub(crate) fn store_case(
     heap: Global,
     texts: &[&str],
-    out: &mut String,
+    line: &mut Line,
 ) -> Result<bool, AllocError> {
     let [space, globals, entry, texts @ ..] = texts else {
         return Ok(false);
     };
-    let (Some(space), Some(globals), Some(entry)) = (room(space), size(globals), size(entry)) else {
+    let Some((space, globals, entry)) = sizes_of(space, globals, entry) else {
         return Ok(false);
     };
     let Some(words) = words_of(heap, texts)? else {
@@ -80,10 +77,10 @@ pub(crate) fn store_case(
     let mut bytes = vec![in heap; 0u8; space]?;
     match store(&words, globals, entry, &mut bytes) {
         Ok(length) => {
-            push_text(out, "bytes")?;
-            push_bytes(out, &bytes, length)?;
-            Ok(true)
+            line.word("bytes");
+            line.bytes(&bytes, length);
         }
-        Err(fault) => push_refused(out, fault.number()),
+        Err(fault) => line.refused(fault.number()),
     }
+    Ok(true)
 }

@@ -1,23 +1,19 @@
 // `word HEX8`: one word of S-code.
+use crate::line::Line;
 use crate::number::hex_word;
 use scode::code::decode;
 use scode::words::split;
-use std::alloc::AllocError;
-use std::fmt::Write;
 
-pub(crate) fn word_case(texts: &[&str], out: &mut String) -> Result<bool, AllocError> {
+pub(crate) fn word_case(texts: &[&str], line: &mut Line) -> bool {
     let [text] = texts else {
-        return Ok(false);
+        return false;
     };
     let Some(word) = hex_word(text) else {
-        return Ok(false);
+        return false;
     };
     let fields = split(word);
-    let opcode = fields.opcode;
-    let argument = fields.argument;
-    let mnemonic = decode(word).mnemonic();
-    match write!(out, "{opcode} {argument} {mnemonic}") {
-        Ok(()) => Ok(true),
-        Err(_) => Err(AllocError),
-    }
+    line.size(fields.opcode as usize);
+    line.number(fields.argument);
+    line.word(decode(word).mnemonic());
+    true
 }

@@ -1,6 +1,6 @@
 // A rule word by word, and a push's facts.
-use hosts::RecordFacts;
-use hosts::record::PushRecord;
+use live_host::RecordFacts;
+use live_host::record::PushRecord;
 use runtime::host::Facts;
 use scode::code::decode;
 use scode::instruction::Instruction;

@@ -1,5 +1,5 @@
 // What each refusal means, in words.
-use hosts::record::RecordFault;
+use live_host::record::RecordFault;
 use stored::rule::LoadFault;
 use stored::rule::StoreFault;
 

@@ -1,3 +1,4 @@
 pub mod Below
 pub mod Firsts
+pub mod Spares
 pub mod Texts

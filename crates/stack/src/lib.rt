@@ -4,7 +4,7 @@ ghost use denote.Ref.{now};
 ghost use lib.ListN.{length};
 
 mod ops;
-mod size;
+mod tells;
 
 // The entries are the first `depth` cells, the last of them on top.
 #[derive(Drop)]

@@ -1,4 +1,4 @@
-// The calls of a stack. Each says what the cells and the depth are afterwards, and that the lent cells are still the same.
+// The calls that change a stack. Each says what the cells and the depth are afterwards, and that the lent cells are still the same.
 ghost use mathlib.Core.Path.{_≡_};
 ghost use mathlib.Core.Bool.{cond};
 ghost use mathlib.Core.List.{[], _∷_};
@@ -7,8 +7,7 @@ ghost use denote.Ref.{name};
 ghost use lib.Dec.{ltb};
 ghost use lib.ListN.{length, set, replicate};
 ghost use Rattle.std.specs.Results.{isOk};
-ghost use Rattle.std.specs.shelf.Maps.{nth};
-ghost use Rattle.stack.specs.Held.{cells, depth, entries, first, held, lent, rest};
+ghost use Rattle.stack.specs.Held.{cells, depth, first, held, lent, rest};
 use crate::Full;
 use crate::NoEntry;
 use crate::Stack;
@@ -55,17 +54,6 @@ impl<'a, T: Copy> Stack<'a, T> {
         }
         self.depth -= 1;
         Some(self.cells[self.depth])
-    }
-
-    // The entry at a place, counted from the bottom.
-    pub fn get(&self, i: usize) -> Option<T>
-        ensures { λ r. ⌜ r ≡ nth (entries (now (self .entry))) i ⌝ }
-    {
-        if i >= self.depth {
-            return None;
-        }
-        let cells: &[T] = &*self.cells;
-        Some(cells[i])
     }
 
     pub fn set(&mut self, i: usize, x: T) -> Result<(), NoEntry>

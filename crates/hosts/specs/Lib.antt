@@ -1,3 +1,0 @@
-pub mod Live
-pub mod Records
-pub mod Rehearsal
