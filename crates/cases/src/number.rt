@@ -42,27 +42,27 @@ pub(crate) fn hex_word(text: &str) -> Option<u32> {
     Some(word)
 }
 
+// Exactly two.
+fn hex_byte(pair: &[u8]) -> Option<u8> {
+    let [high, low] = pair else {
+        return None;
+    };
+    Some(((hex_digit(*high)? << 4 | hex_digit(*low)?) & 0xff) as u8)
+}
+
 // Two hexadecimal digits a byte, `-` for none.
 pub(crate) fn hex_bytes(heap: Global, text: &str) -> Result<Option<Vec<u8>>, AllocError> {
     let mut bytes = Vec::new(heap);
-    if text == "-" {
-        return Ok(Some(bytes));
+    match text {
+        "" => return Ok(None),
+        "-" => return Ok(Some(bytes)),
+        _ => {}
     }
-    let mut high = None;
-    for b in text.bytes() {
-        let Some(digit) = hex_digit(b) else {
+    for pair in text.as_bytes().chunks(2) {
+        let Some(byte) = hex_byte(pair) else {
             return Ok(None);
         };
-        match high {
-            None => high = Some(digit),
-            Some(h) => {
-                bytes.push(((h << 4 | digit) & 0xff) as u8)?;
-                high = None;
-            }
-        }
-    }
-    if high.is_some() || bytes.is_empty() {
-        return Ok(None);
+        bytes.push(byte)?;
     }
     Ok(Some(bytes))
 }

@@ -52,7 +52,7 @@ impl<'a> PushRecord<'a> {
     }
 
     // The record of a push of which nothing is known.
-    pub fn none() -> PushRecord<'a>
+    pub(crate) fn none() -> PushRecord<'a>
         ensures { λ r. ⌜ r .numbers .now ≡ [] ⌝ }
     {
         PushRecord { numbers: &[] }

@@ -27,7 +27,7 @@ fn truth_value(holds: bool) -> i32
     if holds { 1 } else { 0 }
 }
 
-pub fn wrapped_sum(a: i32, b: i32) -> i32
+pub(crate) fn wrapped_sum(a: i32, b: i32) -> i32
     ensures { λ r. ⌜ r ≡ wrapped w32 (a +ℤ b) ⌝ }
 {
     a.wrapping_add(b)
