@@ -6,15 +6,15 @@ use mathlib.Core.Logic.{⊎-elim}
 use native.Mathlib.Omega.{arith}
 use lib.IntN.{ℤ, pos, negsuc, natAbs}
 use lib.Signed.{_≤ℤ_}
-use lib.ListN.{length, take, drop, set, getD, replicate, length-set}
+use lib.ListN.{length, take, drop, set, getD, replicate, length-set, take-append-drop}
 use lib.Seq.{drop-set-lt, drop-drop}
 use Rattle.std.specs.shelf.Maps.{nth}
 use Rattle.std.specs.declared.option.Option.the-variants.{Some, None}
 use Rattle.std.specs.declared.result.Result.the-variants.{Ok}
-use Rattle.std.proofs.shelf.Lists.{take-more-set, take-all, length-take}
+use Rattle.std.proofs.shelf.Lists.{append-nil, drop-all, take-more-set, take-all, length-take}
 use Rattle.std.proofs.shelf.Signed.{ints}
 use Rattle.std.proofs.shelf.Tests.{cases-lt, cond-true, cond-false, le-leb, lt-leb}
-use Rattle.runtime.specs.Access.{Effect, grown, unchanged}
+use Rattle.runtime.specs.Access.{Effect, grown, over, unchanged}
 use Rattle.runtime.specs.declared.stop.Stop.the-variants.{MemoryFull}
 use Rattle.runtime.specs.Meanings.{Kept}
 
@@ -96,6 +96,18 @@ cell-none zero m i h e = refl
 cell-none (suc top) [] i h e = refl
 cell-none (suc top) (x ∷ m) zero h e = cc
 cell-none (suc top) (x ∷ m) (suc i) h e = cell-none top m i (omega arith) e
+
+-- a memory of one length that is the same from a top on, by what lies below that top
+pub over-is : (m m′ b : List ℤ) (top : ℕ) → take top m′ ≡ b → length m′ ≡ length m → drop top m′ ≡ drop top m → m′ ≡ over m b
+over-is m m′ b top t l d =
+    ⊎-elim
+    (λ h.
+    let k : length b ≡ length m′ = ap length (sym t) ∙ length-take top m′ ∙ omega arith in
+    sym (take-all top m′ (omega arith)) ∙ t ∙ sym (append-nil b) ∙ ap (λ (x : List ℤ). b ++ x) (sym (drop-all (length b) m (omega arith))))
+    (λ h.
+    let k : length b ≡ top = ap length (sym t) ∙ length-take top m′ ∙ omega arith in
+    sym (take-append-drop top m′) ∙ ap (λ (x : List ℤ). x ++ drop top m′) t ∙ ap (λ (x : List ℤ). b ++ x) d ∙ ap (λ (j : ℕ). b ++ drop j m) (sym k))
+    (cases-lt (length m′) top)
 
 -- fewer cells are left than were asked for
 pub grown-full : (m : List ℤ) (top : ℕ) (v : ℤ) (cells old n : ℕ) → n ≡ natAbs v → pos 0 ≤ℤ v → cells ≡ length m → old ≡ min top cells → cells - old < n → _≡_ {A = Effect} (unchanged MemoryFull (take top m)) (grown (length m) (take top m) v)

@@ -4,7 +4,7 @@ use mathlib.Core.List.{List, _++_}
 use Prim.Native.Nat.{ℕ, _+_}
 use lib.Dec.{ltb, leb}
 use lib.IntN.{ℤ, pos, negsuc, _+ℤ_}
-use lib.ListN.{length, set, replicate}
+use lib.ListN.{length, drop, set, replicate}
 use mir.Syntax.{w32}
 use Rattle.std.specs.shelf.Signed.{wrapped}
 use Rattle.std.specs.shelf.Maps.{nth}
@@ -35,6 +35,10 @@ pub record Effect : Type 0 where
 
 abbrev pub unchanged : Stop → List ℤ → Effect
 unchanged stop below = record { result = Err stop; below = below }
+
+-- a memory whose cells below the top are these; the others are as they were
+abbrev pub over : List ℤ → List ℤ → List ℤ
+over cells below = below ++ drop (length below) cells
 
 -- an address is base plus index, wrapped to 32 bits
 abbrev pub address : ℤ → ℤ → ℤ

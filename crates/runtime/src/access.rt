@@ -1,11 +1,12 @@
 // Memory below the top. `top` says how many cells are in use; one past the memory's end counts as its end.
-ghost use lib.IntN.{pos};
+ghost use lib.IntN.{natAbs, pos};
 ghost use lib.ListN.{length, take, getD, set, replicate};
 ghost use mathlib.Core.Bool.{cond};
 ghost use mathlib.Core.List.{_++_};
 ghost use mathlib.Core.Path.{_≡_};
-ghost use Prim.Native.Nat.{_≤_, _<_, _-_};
-ghost use Rattle.runtime.specs.Access.{nth-integer, inside, set-integer, grown, fetched, stored};
+ghost use Prim.Native.Nat.{_≤_, _<_, _+_, _-_};
+ghost use Rattle.std.specs.Results.{isOk};
+ghost use Rattle.runtime.specs.Access.{nth-integer, inside, set-integer, grown, fetched, over, stored};
 ghost use Rattle.runtime.specs.Meanings.{Kept};
 use crate::memory::Memory;
 use crate::operator::wrapped_sum;
@@ -53,6 +54,8 @@ fn clear_cells<M: Memory>(memory: &mut M, from: usize, to: usize)
 // New cells that hold 0, by which the top rises; the value is the old top.
 pub fn grow<M: Memory>(memory: &mut M, top: &mut usize, size: i32) -> Result<i32, Stop>
     ensures does { λ r. ⌜ record { result = r; below = take (now (top .exit)) (cells (now (memory .exit))) } ≡ grown (length (cells (now (memory .entry)))) (take (now (top .entry)) (cells (now (memory .entry)))) size ⌝ }
+    ensures top { λ r. ⌜ now (top .exit) ≡ cond (isOk r) (length (take (now (top .entry)) (cells (now (memory .entry)))) + natAbs size) (now (top .entry)) ⌝ }
+    ensures after { λ r. ⌜ cells (now (memory .exit)) ≡ over (cells (now (memory .entry))) (grown (length (cells (now (memory .entry)))) (take (now (top .entry)) (cells (now (memory .entry)))) size .below) ⌝ }
     ensures kept { λ r. ⌜ (now (top .entry) ≤ length (cells (now (memory .entry))) → Kept (now (top .entry)) (cells (now (memory .entry))) (now (top .exit)) (cells (now (memory .exit)))) ⌝ }
     ensures within { λ r. ⌜ (now (top .entry) ≤ length (cells (now (memory .entry))) → now (top .exit) ≤ length (cells (now (memory .exit)))) ⌝ }
     ensures around { λ _. ⌜ M·Memory .around (now (memory .exit)) ≡ M·Memory .around (now (memory .entry)) ⌝ }
