@@ -1,4 +1,6 @@
 // The bench: one case a line from standard input, one line of answer each. A line it cannot read gives `? LINE`.
+#![tactic(auto)]
+
 mod answer;
 mod host;
 mod line;

@@ -1,3 +1,5 @@
 // The kinds of memory: over words, and packed in bytes.
+#![tactic(auto)]
+
 pub mod packed;
 pub mod words;

@@ -1,4 +1,6 @@
 // The command line of the rule engine.
+#![tactic(auto)]
+
 mod check;
 mod excerpt;
 mod hint;

@@ -1,4 +1,6 @@
 // Numbers of 32 bits packed in four bytes each, the low byte first.
+#![tactic(auto)]
+
 ghost use Rattle.std.specs.Prelude.{◌≡◌, ◌/◌, length, if◌then◌else◌, nat_lt};
 ghost use Rattle.std.specs.List.{slice_get};
 ghost use Rattle.packing.specs.Packing.{cells_of, packed_in, words_in};

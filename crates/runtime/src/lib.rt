@@ -1,4 +1,6 @@
 // What a run stands on: the memory and the host by their meaning, the stops, and the data operations that both engines share.
+#![tactic(auto)]
+
 pub mod access;
 pub mod host;
 pub mod memory;

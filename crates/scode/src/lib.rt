@@ -1,4 +1,6 @@
 // S-code: its words and its instructions.
+#![tactic(auto)]
+
 pub mod code;
 pub mod instruction;
 pub mod opcodes;

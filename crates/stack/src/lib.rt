@@ -1,4 +1,6 @@
 // A stack over lent cells, for every kind of entry: machine words, pending entries.
+#![tactic(auto)]
+
 ghost use Rattle.std.specs.Prelude.{◌≤◌, length};
 
 mod ops;
