@@ -8,7 +8,7 @@ use crate::operator::wrapped_sum;
 use crate::stop::Stop;
 
 fn read_at<M: Memory>(memory: &M, top: usize, address: i32) -> Option<i32>
-    ensures { result ≡ nth_integer (take top (cells memory.now)) address }
+    ensures { result ≡ nth_integer (take top (M.cells memory.now)) address }
 {
     let Ok(i) = usize::try_from(address) else {
         return None;
@@ -17,9 +17,9 @@ fn read_at<M: Memory>(memory: &M, top: usize, address: i32) -> Option<i32>
 }
 
 fn write_at<M: Memory>(memory: &mut M, top: usize, address: i32, value: i32) -> bool
-    ensures answer { result ≡ inside (take top (cells memory.old)) address }
-    ensures below { take top (cells memory.new) ≡ (if result then set_integer (take top (cells memory.old)) address value else take top (cells memory.old)) }
-    ensures kept { Kept top (cells memory.old) top (cells memory.new) }
+    ensures answer { result ≡ inside (take top (M.cells memory.old)) address }
+    ensures below { take top (M.cells memory.new) ≡ (if result then set_integer (take top (M.cells memory.old)) address value else take top (M.cells memory.old)) }
+    ensures kept { Kept top (M.cells memory.old) top (M.cells memory.new) }
     ensures around { M.Memory.around memory.new ≡ M.Memory.around memory.old }
 {
     let Ok(i) = usize::try_from(address) else {
@@ -36,9 +36,9 @@ fn write_at<M: Memory>(memory: &mut M, top: usize, address: i32, value: i32) -> 
 
 // Writes 0 to the cells from `from` up to `to`.
 fn clear_cells<M: Memory>(memory: &mut M, from: usize, to: usize)
-    requires { (from ≤ to) × (to ≤ length (cells memory.old)) }
-    ensures below { take to (cells memory.new) ≡ take from (cells memory.old) ++ replicate (to - from) (pos 0) }
-    ensures kept { Kept from (cells memory.old) to (cells memory.new) }
+    requires { (from ≤ to) × (to ≤ length (M.cells memory.old)) }
+    ensures below { take to (M.cells memory.new) ≡ take from (M.cells memory.old) ++ replicate (to - from) (pos 0) }
+    ensures kept { Kept from (M.cells memory.old) to (M.cells memory.new) }
     ensures around { M.Memory.around memory.new ≡ M.Memory.around memory.old }
 {
     for i in from..to {
@@ -48,11 +48,11 @@ fn clear_cells<M: Memory>(memory: &mut M, from: usize, to: usize)
 
 // New cells that hold 0, by which the top rises; the value is the old top.
 pub fn grow<M: Memory>(memory: &mut M, top: &mut usize, size: i32) -> Result<i32, Stop>
-    ensures* does { λ r. ⌜ record { result = r; below = take top.new (cells memory.new) } ≡ grown (length (cells memory.old)) (take top.old (cells memory.old)) size ⌝ }
-    ensures top { top.new ≡ (if is_ok result then length (take top.old (cells memory.old)) + unsigned_abs size else top.old) }
-    ensures after { cells memory.new ≡ over (cells memory.old) (grown (length (cells memory.old)) (take top.old (cells memory.old)) size).below }
-    ensures kept { top.old ≤ length (cells memory.old) → Kept top.old (cells memory.old) top.new (cells memory.new) }
-    ensures within { top.old ≤ length (cells memory.old) → top.new ≤ length (cells memory.new) }
+    ensures does { record { result = result; below = take top.new (M.cells memory.new) } ≡ grown (length (M.cells memory.old)) (take top.old (M.cells memory.old)) size }
+    ensures top { top.new ≡ (if is_ok result then length (take top.old (M.cells memory.old)) + unsigned_abs size else top.old) }
+    ensures after { M.cells memory.new ≡ over (M.cells memory.old) (grown (length (M.cells memory.old)) (take top.old (M.cells memory.old)) size).below }
+    ensures kept { top.old ≤ length (M.cells memory.old) → Kept top.old (M.cells memory.old) top.new (M.cells memory.new) }
+    ensures within { top.old ≤ length (M.cells memory.old) → top.new ≤ length (M.cells memory.new) }
     ensures around { M.Memory.around memory.new ≡ M.Memory.around memory.old }
 {
     if size < 0 {
@@ -71,7 +71,7 @@ pub fn grow<M: Memory>(memory: &mut M, top: &mut usize, size: i32) -> Result<i32
 
 // The cell i, or 0 where i is not below the top.
 pub fn cell<M: Memory>(memory: &M, top: usize, i: usize) -> i32
-    ensures { result ≡ slice_index_or (take top (cells memory.now)) i (pos 0) }
+    ensures { result ≡ slice_index_or (take top (M.cells memory.now)) i (pos 0) }
 {
     if i >= top {
         return 0;
@@ -84,8 +84,8 @@ pub fn cell<M: Memory>(memory: &M, top: usize, i: usize) -> i32
 
 // Writes to the cell i where it lies below the top.
 pub fn set_cell<M: Memory>(memory: &mut M, top: usize, i: usize, value: i32)
-    ensures below { take top (cells memory.new) ≡ slice_set (take top (cells memory.old)) i value }
-    ensures kept { Kept top (cells memory.old) top (cells memory.new) }
+    ensures below { take top (M.cells memory.new) ≡ slice_set (take top (M.cells memory.old)) i value }
+    ensures kept { Kept top (M.cells memory.old) top (M.cells memory.new) }
     ensures around { M.Memory.around memory.new ≡ M.Memory.around memory.old }
 {
     if i < top {
@@ -95,7 +95,7 @@ pub fn set_cell<M: Memory>(memory: &mut M, top: usize, i: usize, value: i32)
 
 // The cell at base plus index.
 pub fn fetch<M: Memory>(memory: &M, top: usize, base: i32, index: i32) -> Result<i32, Stop>
-    ensures { result ≡ fetched (take top (cells memory.now)) base index }
+    ensures { result ≡ fetched (take top (M.cells memory.now)) base index }
 {
     match read_at(memory, top, wrapped_sum(base, index)) {
         Some(v) => Ok(v),
@@ -111,8 +111,8 @@ pub fn store<M: Memory>(
     index: i32,
     value: i32,
 ) -> Result<i32, Stop>
-    ensures* does { λ r. ⌜ record { result = r; below = take top (cells memory.new) } ≡ stored (take top (cells memory.old)) base index value ⌝ }
-    ensures kept { Kept top (cells memory.old) top (cells memory.new) }
+    ensures does { record { result = result; below = take top (M.cells memory.new) } ≡ stored (take top (M.cells memory.old)) base index value }
+    ensures kept { Kept top (M.cells memory.old) top (M.cells memory.new) }
     ensures around { M.Memory.around memory.new ≡ M.Memory.around memory.old }
 {
     if write_at(memory, top, wrapped_sum(base, index), value) {

@@ -47,7 +47,7 @@ pub fn write_byte<H: PushHost>(host: &mut H, value: i32) -> Result<i32, Stop>
 
 // Sys 3: the fact of that number. It needs facts alone, and no report.
 pub fn fact_at<F: Facts>(source: &F, number: i32) -> Result<i32, Stop>
-    ensures { result ≡ fact_told (facts source.now) number }
+    ensures { result ≡ fact_told (F.facts source.now) number }
 {
     let Ok(k) = usize::try_from(number) else {
         return Err(Stop::NoFact);

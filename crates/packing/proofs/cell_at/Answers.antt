@@ -6,7 +6,7 @@ use Rattle.packing.proofs.cell_at.Goals as goal
 
 pub returns-in-Some : goal.returns-in-Some
 returns-in-Some c =
-    ap Some (to_z-of_z w32 c.cast-signed.result (record { sfits = c.cast-signed.type-inv }) ∙ c.cast-signed.ensures)
+    ap Some (to_z-of_z w32 c.cast_signed.result (record { sfits = c.cast_signed.type_inv }) ∙ c.cast_signed.ensures)
     ∙ ap (option_map (to_z w32)) c.in-Some.ensures
     ∙ nth_cells c.args.bytes.now c.args.i
 

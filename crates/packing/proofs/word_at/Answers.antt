@@ -6,4 +6,4 @@ pub returns-then-i-bytes : goal.returns-then-i-bytes
 returns-then-i-bytes c = none_past c.args.bytes.now c.args.i (omega arith)
 
 pub returns : goal.returns
-returns c = some_at c.args.bytes.now c.args.i c.from-le-bytes.result (omega arith) c.from-le-bytes.ensures
+returns c = some_at c.args.bytes.now c.args.i c.from_le_bytes.result (omega arith) c.from_le_bytes.ensures

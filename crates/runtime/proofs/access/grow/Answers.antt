@@ -41,7 +41,7 @@ returns-then-more-cells g c =
 pub returns : goal.returns
 returns g c =
     let m = g.M.Memory.cells c.args.memory.now in
-    let m' = g.M.Memory.cells c.clear-cells.new.memory in
+    let m' = g.M.Memory.cells c.clear_cells.new.memory in
     let old = c.min-old.result in
     let n = nat_abs (to_z w32 (of_z w32 c.args.size)) in
     let nat : n ≡ nat_abs c.args.size = ap nat_abs (to_z-of_z w32 c.args.size c.ranges.size) in
@@ -49,17 +49,17 @@ returns g c =
     let z : to_z w32 old ≡ pos old = search rules in
     let low : old ≡ length (take c.args.top.now m) = omega (arith, length-take c.args.top.now m, c.len-cells.ensures.answer, c.min-old.ensures) in
     let e : ◌≡◌ {A = Effect} (record { result = Ok (pos old); below = take (old + n) m' }) (grown (length m) (take c.args.top.now m) c.args.size) =
-    grown_more m m' c.args.top.now c.args.size c.len-cells.result old n nat s c.len-cells.ensures.answer c.min-old.ensures c.if-more-cells.false c.clear-cells.ensures.below in
+    grown_more m m' c.args.top.now c.args.size c.len-cells.result old n nat s c.len-cells.ensures.answer c.min-old.ensures c.if-more-cells.false c.clear_cells.ensures.below in
     record {
       does = ap (λ (x : ℤ). record { result = Ok x; below = take (old + n) m' }) z ∙ e;
       top = ap (λ (x : ℕ). old + x) nat ∙ ap (λ (x : ℕ). x + nat_abs c.args.size) low;
       after =
-          over_is m m' (take (old + n) m') (old + n) refl c.clear-cells.ensures.kept.long c.clear-cells.ensures.kept.rest
+          over_is m m' (take (old + n) m') (old + n) refl c.clear_cells.ensures.kept.long c.clear_cells.ensures.kept.rest
           ∙ ap (λ (x : Effect). over m x.below) e;
       kept = λ h.
           let q : old ≡ c.args.top.now = omega (arith, c.len-cells.ensures.answer, c.min-old.ensures, h) in
           let P : ℕ → Type 0 = λ x. Kept x m (old + n) m' in
-          subst P q c.clear-cells.ensures.kept;
-      within = λ h. omega (arith, c.len-cells.ensures.answer, c.min-old.ensures, c.if-more-cells.false, c.clear-cells.ensures.kept.long);
-      around = c.clear-cells.ensures.around;
+          subst P q c.clear_cells.ensures.kept;
+      within = λ h. omega (arith, c.len-cells.ensures.answer, c.min-old.ensures, c.if-more-cells.false, c.clear_cells.ensures.kept.long);
+      around = c.clear_cells.ensures.around;
     }

@@ -15,19 +15,19 @@ returns-then-n-lt10 g t c =
       place = c.put.ensures.place;
     }
 
-pub put-digits-requires : goal.put-digits-requires
-put-digits-requires g t c κs within = let e = length_more c.args.n (omega arith) (omega arith) in search rules
+pub put_digits-requires : goal.put_digits-requires
+put_digits-requires g t c κs within = let e = length_more c.args.n (omega arith) (omega arith) in search rules
 
 pub returns : goal.returns
 returns g t c =
     let e = length_more c.args.n (omega arith) (omega arith) in
-    let l : length (g.H.PushHost.report c.put-digits.new.host) ≡ length (g.H.PushHost.report c.args.host.now) + length (decimal (c.args.n / 10)) = ap length c.put-digits.ensures.after ∙ length-append _ _ in
-    let s = c.put-digits.ensures.spared in
-    let w : 0 < length (g.H.PushHost.spare c.put-digits.new.host) = omega arith in
+    let l : length (g.H.PushHost.report c.put_digits.new.host) ≡ length (g.H.PushHost.report c.args.host.now) + length (decimal (c.args.n / 10)) = ap length c.put_digits.ensures.after ∙ length-append _ _ in
+    let s = c.put_digits.ensures.spared in
+    let w : 0 < length (g.H.PushHost.spare c.put_digits.new.host) = omega arith in
     let p = put_ok _ _ _ _ _ _ c.put-2.ensures.answer c.put-2.ensures.after c.put-2.ensures.spare w in
     record {
-      after = digits_on _ _ _ c.args.n (omega arith) (omega arith) c.put-digits.ensures.after p.after;
+      after = digits_on _ _ _ c.args.n (omega arith) (omega arith) c.put_digits.ensures.after p.after;
       spared = spared_trans _ _ _ _ _ _ s p.spared;
-      facts = c.put-2.ensures.facts ∙ c.put-digits.ensures.facts;
-      place = c.put-2.ensures.place ∙ c.put-digits.ensures.place;
+      facts = c.put-2.ensures.facts ∙ c.put_digits.ensures.facts;
+      place = c.put-2.ensures.place ∙ c.put_digits.ensures.place;
     }

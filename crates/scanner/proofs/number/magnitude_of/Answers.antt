@@ -4,8 +4,8 @@ use Rattle.scanner.proofs.Numbers.{Read, read_more, read_bad, read_all, read_non
 use Rattle.scanner.proofs.number.magnitude_of.Goals as goal
 use Rattle.scanner.proofs.number.magnitude_of.Goals.{then-b-lt48-via-then-b-lt48, then-b-lt48-via-else-b-lt48+then-b-gt57}
 
-pub returns-then-is-empty : goal.returns-then-is-empty
-returns-then-is-empty c = sym (read_none _ (eqb-true _ _ (sym c.if-is-empty.ensures)))
+pub returns-then-is_empty : goal.returns-then-is_empty
+returns-then-is_empty c = sym (read_none _ (eqb-true _ _ (sym c.if-is_empty.ensures)))
 
 pub returns-then-b-lt48 : goal.returns-then-b-lt48
 returns-then-b-lt48 c =
@@ -15,14 +15,14 @@ returns-then-b-lt48 c =
       | then-b-lt48-via-else-b-lt48+then-b-gt57 w ↦ and_right _ _ (lt-leb _ 57 w.if-b-gt57.true)
     ]))
 
-pub overflow-mul-n : goal.overflow-mul-n
-overflow-mul-n c = let h = few _ _ _ c.requires c.loop-b-test.true c.loop-b.invariant in search rules
+pub overflow_mul-n : goal.overflow_mul-n
+overflow_mul-n c = let h = few _ _ _ c.requires c.loop-b-test.true c.loop-b.invariant in search rules
 
-pub overflow-add-n : goal.overflow-add-n
-overflow-add-n c = let h = few _ _ _ c.requires c.loop-b-test.true c.loop-b.invariant in search rules
+pub overflow_add-n : goal.overflow_add-n
+overflow_add-n c = let h = few _ _ _ c.requires c.loop-b-test.true c.loop-b.invariant in search rules
 
 pub loop-b-preserved : goal.loop-b-preserved
 loop-b-preserved c = read_more _ _ _ c.loop-b-test.true c.loop-b.invariant c.if-b-lt48.false c.if-b-gt57.false
 
 pub returns : goal.returns
-returns c = sym (read_all _ _ _ (let f = eqb-false _ _ (sym c.if-is-empty.ensures) in omega arith) c.loop-b-test.false c.loop-b.invariant)
+returns c = sym (read_all _ _ _ (let f = eqb-false _ _ (sym c.if-is_empty.ensures) in omega arith) c.loop-b-test.false c.loop-b.invariant)

@@ -8,8 +8,8 @@ use Rattle.scode.proofs.code.encode.Goals as goal
 pub returns : goal.returns
 returns c =
     let i = c.args.instruction in
-    let f = c.in-ok-fields-of.field-0 in
-    let has : fields_of i ≡ Some f = sym c.fields_of.ensures ∙ c.in-ok-fields-of.was in
+    let f = c.in_ok-fields_of.field-0 in
+    let has : fields_of i ≡ Some f = sym c.fields_of.ensures ∙ c.in_ok-fields_of.was in
     let back = MatchOption-at_some (Unit {0}) (Undone i) f has (fields_back i) in
     record {
       answer = c.join.ensures.answer ∙ ap word_of (sym has);

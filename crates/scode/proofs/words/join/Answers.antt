@@ -13,10 +13,10 @@ returns c =
     let a = f.argument in
     let whole : SFits w32 a = search rules in
     let same = to_z-of_z w32 a whole in
-    let low : lt_z a (negsuc 8388607) ≡ false = ap (λ (x : ℤ). lt_z x (negsuc 8388607)) (sym same) ∙ c.if-parts-lt-LEAST-ARGUMENT.false in
-    let high : lt_z (pos 8388607) a ≡ false = ap (lt_z (pos 8388607)) (sym same) ∙ c.if-parts-gt-MOST-ARGUMENT.false in
+    let low : lt_z a (negsuc 8388607) ≡ false = ap (λ (x : ℤ). lt_z x (negsuc 8388607)) (sym same) ∙ c.if-parts-lt-LEAST_ARGUMENT.false in
+    let high : lt_z (pos 8388607) a ≡ false = ap (lt_z (pos 8388607)) (sym same) ∙ c.if-parts-gt-MOST_ARGUMENT.false in
     let fits = fits_between a low high in
-    let word = word_by_bits f.opcode a c.cast-unsigned.result (omega arith) fits (c.cast-unsigned.ensures ∙ ap (of_z w32) same) in
+    let word = word_by_bits f.opcode a c.cast_unsigned.result (omega arith) fits (c.cast_unsigned.ensures ∙ ap (of_z w32) same) in
     record {
       answer = ap Some word ∙ sym (cond-true _ _ _ fits);
       again = ap fields word ∙ fields_again f (omega arith) fits;

@@ -7,7 +7,7 @@ use Rattle.scode.proofs.words.split.Goals as goal
 
 pub returns : goal.returns
 returns c =
-    let op = c.opcode-of.result in
-    let same = to_z-of_z w32 c.argument-of.result (record { sfits = c.argument-of.type-inv }) ∙ c.argument-of.ensures in
-    let parts = ap (both op) same ∙ ap (λ (x : ℕ). both x (fields c.args.word).argument) c.opcode-of.ensures in
+    let op = c.opcode_of.result in
+    let same = to_z-of_z w32 c.argument_of.result (record { sfits = c.argument_of.type_inv }) ∙ c.argument_of.ensures in
+    let parts = ap (both op) same ∙ ap (λ (x : ℕ). both x (fields c.args.word).argument) c.opcode_of.ensures in
     record { answer = parts; again = ap joined parts ∙ word_again c.args.word (omega arith) }

@@ -13,6 +13,6 @@ returns c =
     let h = c.if-place-file.false in
     let is = c.max-end.ensures in
     record {
-      answer = text_is file p e h (is ∙ ap (λ n. max n 1) c.first-end.ensures.answer);
-      within = text_within file p e h c.first-end.result is c.first-end.ensures.within;
+      answer = text_is file p e h (is ∙ ap (λ n. max n 1) c.first_end.ensures.answer);
+      within = text_within file p e h c.first_end.result is c.first_end.ensures.within;
     }

@@ -9,4 +9,4 @@ returns-in-78 c =
     let n : get_or bs 0 0 ≡ 78 = omega arith in
     let s : get_or bs 1 0 ≡ 83 = omega arith in
     let m : get_or bs 2 0 ≡ 67 = omega arith in
-    header_is bs c.counts.result c.if-bytes-lt-HEADER-BYTES.false n s m c.counts.ensures
+    header_is bs c.counts.result c.if-bytes-lt-HEADER_BYTES.false n s m c.counts.ensures

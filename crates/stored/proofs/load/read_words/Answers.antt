@@ -11,8 +11,8 @@ loop-i-preserved c =
     let i = c.loop-i.i in
     let ws = words_in c.args.bytes.now in
     let n = length_words c.args.bytes.now in
-    let w : c.unwrap-or.result ≡ get_or ws i 0 = c.unwrap-or.ensures ∙ ap (λ (o : Option ℕ). unwrap_or o 0) c.word-at.ensures ∙ nth_or ws i 0 in
-    ap (λ (r : List ℕ). set r i c.unwrap-or.result) c.loop-i.invariant
+    let w : c.unwrap_or.result ≡ get_or ws i 0 = c.unwrap_or.ensures ∙ ap (λ (o : Option ℕ). unwrap_or o 0) c.word_at.ensures ∙ nth_or ws i 0 in
+    ap (λ (r : List ℕ). set r i c.unwrap_or.result) c.loop-i.invariant
     ∙ ap (set (take i ws ++ drop i c.args.words.now) i) w
     ∙ front_more ws c.args.words.now i (omega arith) (omega arith)
 

@@ -12,15 +12,15 @@ pub returns : goal.returns
 returns c =
     let ws = c.args.words.now in
     let old = c.args.out.now in
-    let n = c.in-ok-length.length in
+    let n = c.in_ok-length.length in
     let r = rule c.args.globals c.args.entry ws in
-    let fits : Storable (length ws) c.args.globals c.args.entry (length old) n = c.in-ok-length.ensures.fits in
-    let after : c.write-words.new.out ≡ stored r ++ drop n old =
-    both_parts (header_bytes (length ws) c.args.globals c.args.entry) ws old c.write-header.new.out c.write-words.new.out n refl fits.length_is c.write-header.ensures c.write-words.ensures in
+    let fits : Storable (length ws) c.args.globals c.args.entry (length old) n = c.in_ok-length.ensures.fits in
+    let after : c.write_words.new.out ≡ stored r ++ drop n old =
+    both_parts (header_bytes (length ws) c.args.globals c.args.entry) ws old c.write_header.new.out c.write_words.new.out n refl fits.length_is c.write_header.ensures c.write_words.ensures in
     let size : length (stored r) ≡ n = omega (arith, length_bytes ws) in
-    let whole = All-from_get_or (λ w. w < 4294967296) ws 0 (λ i _. (c.type-inv.words i).fits) in
+    let whole = All-from_get_or (λ w. w < 4294967296) ws 0 (λ i _. (c.type_inv.words i).fits) in
     record {
-      answer = sym c.in-ok-length.was ∙ c.needed.ensures.answer;
+      answer = sym c.in_ok-length.was ∙ c.needed.ensures.answer;
       after = after;
       again =
           ap (λ (xs : List ℕ). loaded (take n xs)) after

@@ -7,7 +7,7 @@ use Rattle.stored.proofs.store.write_words.Goals as goal
 
 pub loop-i-preserved : goal.loop-i-preserved
 loop-i-preserved c =
-    word_next c.args.out.now c.args.words.now c.loop-i.out c.put.new.out c.to-le-bytes.result c.loop-i.i (omega arith) c.loop-i-test.true c.to-le-bytes.ensures c.loop-i.invariant c.put.ensures
+    word_next c.args.out.now c.args.words.now c.loop-i.out c.put.new.out c.to_le_bytes.result c.loop-i.i (omega arith) c.loop-i-test.true c.to_le_bytes.ensures c.loop-i.invariant c.put.ensures
 
 pub returns : goal.returns
 returns c =

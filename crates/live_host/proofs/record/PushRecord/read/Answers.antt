@@ -7,11 +7,11 @@ use Rattle.live_host.proofs.record.PushRecord.read.Goals as goal
 pub returns-then-bytes-lt6 : goal.returns-then-bytes-lt6
 returns-then-bytes-lt6 c = record { answer = search rules; again = search rules; sent = sent }
 
-pub returns-in-default : goal.returns-in-default
-returns-in-default c = record { answer = search rules; again = search rules; sent = sent }
+pub returns-in_default : goal.returns-in_default
+returns-in_default c = record { answer = search rules; again = search rules; sent = sent }
 
-pub returns-then-from-le-bytes-ne1 : goal.returns-then-from-le-bytes-ne1
-returns-then-from-le-bytes-ne1 c = record { answer = search (rules, get_or-take, get_or-drop); again = search rules; sent = sent }
+pub returns-then-from_le_bytes-ne1 : goal.returns-then-from_le_bytes-ne1
+returns-then-from_le_bytes-ne1 c = record { answer = search (rules, get_or-take, get_or-drop); again = search rules; sent = sent }
 
 pub returns-then-count-gt64 : goal.returns-then-count-gt64
 returns-then-count-gt64 c = record { answer = search (rules, get_or-take, get_or-drop); again = search rules; sent = sent }
@@ -23,4 +23,4 @@ pub returns : goal.returns
 returns c =
     let e = take_rest c.args.bytes.now 6 in
     let a : Ok _ ≡ body c.args.bytes.now = search (rules, e, get_or-take, get_or-drop) in
-    record { answer = a; again = read_again c.args.bytes.now _ c.type-inv.bytes a; sent = sent }
+    record { answer = a; again = read_again c.args.bytes.now _ c.type_inv.bytes a; sent = sent }

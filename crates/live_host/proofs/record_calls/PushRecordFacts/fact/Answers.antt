@@ -11,4 +11,4 @@ returns-then-k-ge64 c =
     sym (slice_get_past (first 64 (cells_of c.args.self.now.numbers.now)) c.args.k (omega arith))
 
 pub returns : goal.returns
-returns c = c.cell-at.ensures ∙ nth_within 64 (cells_of c.args.self.now.numbers.now) c.args.k (omega arith)
+returns c = c.cell_at.ensures ∙ nth_within 64 (cells_of c.args.self.now.numbers.now) c.args.k (omega arith)

@@ -6,9 +6,9 @@ use Rattle.memories.proofs.packed.PackedMemory.write.Goals as goal
 pub returns : goal.returns
 returns c =
     let z = to_z-of_z w32 c.args.v c.ranges.v in
-    let p = cell_written 16384 _ c.args.self.now.bytes.now c.write-packed.new.bytes c.args.i _ c.args.v c.ranges.v z c.write-packed.ensures.answer c.write-packed.ensures.lent in
+    let p = cell_written 16384 _ c.args.self.now.bytes.now c.write_packed.new.bytes c.args.i _ c.args.v c.ranges.v z c.write_packed.ensures.answer c.write_packed.ensures.lent in
     record {
-      answer = c.write-packed.ensures.answer;
+      answer = c.write_packed.ensures.answer;
       after = p.0;
       around = ap (λ (x : List ℤ). record { place = c.args.self.now.bytes.name; rest = x }) p.1;
       lent = p.2;

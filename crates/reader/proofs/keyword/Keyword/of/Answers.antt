@@ -3,4 +3,4 @@ use Rattle.reader.proofs.keyword.Keyword.of.Goals as goal
 
 pub returns : goal.returns
 unfolding keyword
-returns c = c.looked-up.ensures
+returns c = c.looked_up.ensures

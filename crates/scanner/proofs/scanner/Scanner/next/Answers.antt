@@ -30,9 +30,9 @@ returns-in-InComment-Foreign c =
 
 pub returns-in-InWord-default : goal.returns-in-InWord-default
 returns-in-InWord-default c =
-    let ne : c.class-of.result ≡ Letter → ⊥ = search rules in
+    let ne : c.class_of.result ≡ Letter → ⊥ = search rules in
     let owed = at c.args.self.now _ c.in-InWord-default.is-0 c.loop-here.invariant.1 in
-    rw c.loop-here.invariant.0 (ap (map item) owed.2 ∙ ended _ _ _ _ c.token-of.ensures owed.0 c.loop-here-test.true _ (sym c.class-of.ensures) ne)
+    rw c.loop-here.invariant.0 (ap (map item) owed.2 ∙ ended _ _ _ _ c.token_of.ensures owed.0 c.loop-here-test.true _ (sym c.class_of.ensures) ne)
 
 pub returns-in-Between-Open : goal.returns-in-Between-Open
 returns-in-Between-Open c =
@@ -58,18 +58,18 @@ loop-here-preserved c =
       elim c.match-state.branch [
         | in-InComment-LineFeed w ↦ rw w.state-is (at me _ w.in-InComment-LineFeed.is-0 inv ∙ look _ _ lt _ (sym w.in-InComment-LineFeed.ensures) inComment)
         | in-InComment-default w ↦
-            let line : c.class-of.result ≡ LineFeed → ⊥ = search rules in
-            let odd : c.class-of.result ≡ Foreign → ⊥ = search rules in
-            rw (w.state-is, w.in-InComment-default.is-0) (at me _ w.in-InComment-default.is-0 inv ∙ hushes _ _ lt _ (sym c.class-of.ensures) line odd)
+            let line : c.class_of.result ≡ LineFeed → ⊥ = search rules in
+            let odd : c.class_of.result ≡ Foreign → ⊥ = search rules in
+            rw (w.state-is, w.in-InComment-default.is-0) (at me _ w.in-InComment-default.is-0 inv ∙ hushes _ _ lt _ (sym c.class_of.ensures) line odd)
         | in-InWord-Letter w ↦
             let owed = at me _ w.in-InWord-Letter.is-0 inv in
             rw (w.state-is, w.in-InWord-Letter.is-0) (omega arith, omega arith, owed.2 ∙ longer _ _ _ owed.0 lt (sym w.in-InWord-Letter.ensures))
         | in-Between-Blank w ↦
-            let either : (c.class-of.result ≡ Blank) ⊎ (c.class-of.result ≡ LineFeed) = search rules in
+            let either : (c.class_of.result ≡ Blank) ⊎ (c.class_of.result ≡ LineFeed) = search rules in
             rw (w.state-is, w.in-Between-Blank.is-0)
             (⊎_elim
-            (λ k. at me _ w.in-Between-Blank.is-0 inv ∙ look _ _ lt _ (sym c.class-of.ensures ∙ k) between)
-            (λ k. at me _ w.in-Between-Blank.is-0 inv ∙ look _ _ lt _ (sym c.class-of.ensures ∙ k) between)
+            (λ k. at me _ w.in-Between-Blank.is-0 inv ∙ look _ _ lt _ (sym c.class_of.ensures ∙ k) between)
+            (λ k. at me _ w.in-Between-Blank.is-0 inv ∙ look _ _ lt _ (sym c.class_of.ensures ∙ k) between)
             either)
         | in-Between-Semicolon w ↦ rw w.state-is (at me _ w.in-Between-Semicolon.is-0 inv ∙ look _ _ lt _ (sym w.in-Between-Semicolon.ensures) between)
         | in-Between-Letter w ↦ rw w.state-is (omega arith, omega arith, at me _ w.in-Between-Letter.is-0 inv ∙ starts _ _ lt (sym w.in-Between-Letter.ensures))
@@ -80,10 +80,10 @@ pub returns-in-InWord : goal.returns-in-InWord
 returns-in-InWord c =
     let owed = at c.args.self.now _ c.in-InWord.is c.loop-here.invariant.1 in
     let done : c.loop-here.here ≡ length c.args.self.now.text.now = omega (arith, owed.1) in
-    rw c.loop-here.invariant.0 (ap (map item) owed.2 ∙ ended_all _ _ _ _ c.token-of-in-InWord.ensures owed.0 done)
+    rw c.loop-here.invariant.0 (ap (map item) owed.2 ∙ ended_all _ _ _ _ c.token_of-in-InWord.ensures owed.0 done)
 
-pub returns-in-default : goal.returns-in-default
-returns-in-default c = (
-  ap (map item) (nothing _ _ _ _ c.loop-here-test.false c.in-default.not-InWord c.loop-here.invariant.1),
+pub returns-in_default : goal.returns-in_default
+returns-in_default c = (
+  ap (map item) (nothing _ _ _ _ c.loop-here-test.false c.in_default.not-InWord c.loop-here.invariant.1),
   rw c.loop-here.invariant.0 (ap (map item) (at_drop_all (pieces between (length c.args.self.now.text.now)) c.args.self.now.text.now (length c.args.self.now.text.now) (omega arith))),
 )
