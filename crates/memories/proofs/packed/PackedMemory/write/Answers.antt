@@ -10,6 +10,6 @@ returns c =
     record {
       answer = c.write_packed.ensures.answer;
       after = p.0;
-      around = ap (λ (x : List ℤ). record { place = c.args.self.now.bytes.name; rest = x }) p.1;
+      around = ap (λ (x : List ℤ). record { place = c.args.self.now.bytes.ghost_name; rest = x }) p.1;
       lent = p.2;
     }

@@ -10,6 +10,6 @@ returns c =
     record {
       answer = c.write_word.ensures.answer;
       after = p.0;
-      around = ap (λ (x : List ℤ). record { place = c.args.self.now.cells.name; rest = x }) p.1;
+      around = ap (λ (x : List ℤ). record { place = c.args.self.now.cells.ghost_name; rest = x }) p.1;
       lent = p.2;
     }
