@@ -16,6 +16,7 @@ use crate::check::check;
 use crate::inspect::inspect;
 use anyhow::anyhow;
 use std::env;
+use std::process::ExitCode;
 
 const HELP: &str = "nut: the Nut rule engine of a push server
 
@@ -52,10 +53,13 @@ fn run(rt: &HostRuntime) -> anyhow::Result<()> {
     }
 }
 
-fn main(rt: HostRuntime) -> anyhow::Result<()> {
-    let result = run(&rt);
-    if let Err(error) = &result {
-        eprintln!(rt; "nut: {error}")?;
+// The error is told here, so that it begins with the program's name and is told once.
+fn main(rt: HostRuntime) -> anyhow::Result<ExitCode> {
+    match run(&rt) {
+        Ok(()) => Ok(ExitCode::SUCCESS),
+        Err(error) => {
+            eprintln!(rt; "nut: {error}")?;
+            Ok(ExitCode::FAILURE)
+        }
     }
-    result
 }

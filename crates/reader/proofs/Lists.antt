@@ -1,5 +1,5 @@
 -- What a reader keeps as it goes through the elements of a list.
-use Rattle.std.proofs.Common.{◌≡◌, ℕ, ◌+◌, ◌≤◌, Bool, true, false, cond, Some, None, Option, sym, refl, ap, ◌∙◌, add-zero, add_assoc, zero-add, arith}
+use Rattle.std.proofs.Common.{◌≡◌, ℕ, ◌≤◌, Bool, true, false, Some, None, Option, refl, add-zero, add_assoc, arith}
 use Rattle.reader.specs.Forms.{Forest, none, named, numbered, form, Pile, tail, count, size, or, and_so, survey, survey_first, both, Readable}
 use Rattle.reader.specs.declared.elements.Survey.{Survey}
 

@@ -1,13 +1,12 @@
 -- A text without faults of nesting is one form, with at most 32 parentheses open.
-use Rattle.std.proofs.Common.{◌≡◌, ℕ, ◌+◌, ◌-◌, ◌<◌, ◌≤◌, Bool, true, false, cond, leb, List, [], ◌∷◌, ◌++◌, length, sym, refl, ap, ◌∙◌, subst, ⊎_elim, arith}
+use Rattle.std.proofs.Common.{◌≡◌, ℕ, ◌+◌, ◌-◌, ◌<◌, ◌≤◌, Bool, true, false, leb, List, [], ◌∷◌, ◌++◌, length, sym, refl, ap, ◌∙◌, subst, ⊎_elim, arith}
 use Rattle.std.proofs.lemmas.Bool.{cases_lt, leb-false, le-leb, lt-leb, cond-true, cond-false}
 use Rattle.scanner.specs.Faults.{when}
 use Rattle.scanner.specs.Words.{Lexeme, opens, closes, name, number}
-use Rattle.reader.specs.Forms.{Forest, none, named, numbered, form, Pile, grow, first_list, other_lists, out, size, depth, Readable}
+use Rattle.reader.specs.Forms.{Forest, none, form, Pile, grow, first_list, other_lists, size, depth}
 use Rattle.reader.specs.Nests.{nest_faults}
 use Rattle.reader.specs.declared.fault.FormFault.{FormFault}
 use Rattle.reader.specs.declared.fault.FormFault.TheVariants.{NotOneForm, TooDeep}
-use Rattle.reader.specs.declared.nesting.Nesting.{Nesting}
 use Rattle.reader.specs.declared.nesting.Nesting.TheVariants.{Before, Inside, After}
 
 pub never : {X : Type 0} (f : FormFault) (fs : List FormFault) → ◌≡◌ {A = List FormFault} (f ∷ fs) [] → X

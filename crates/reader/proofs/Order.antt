@@ -1,18 +1,17 @@
 -- The faults of a text stand in order: none comes before one that is listed earlier.
-use Rattle.std.proofs.Common.{◌≡◌, ℕ, ◌+◌, ◌*◌, ◌<◌, ◌≤◌, Bool, true, false, cond, leb, List, [], ◌∷◌, ◌++◌, map, length, pos, sym, refl, ap, ◌∙◌, subst, arith}
+use Rattle.std.proofs.Common.{◌≡◌, ℕ, ◌+◌, ◌*◌, ◌<◌, ◌≤◌, Bool, true, false, cond, leb, List, [], ◌∷◌, ◌++◌, map, length, pos, refl, arith}
 use lib.Signed.{le_z}
 use Rattle.std.specs.List.{AllByRecursion as All}
 use Rattle.std.proofs.ByRecursion.{All-append}
-use Rattle.scanner.specs.Faults.{scan_refusal, scan_faults, when, pieces_faults}
-use Rattle.scanner.specs.Pieces.{pieces_of}
+use Rattle.scanner.specs.Faults.{scan_refusal, scan_faults, when}
 use Rattle.scanner.specs.Scans.{lexemes_of}
 use Rattle.scanner.specs.Words.{Lexeme, opens, closes, name, number}
 use Rattle.scanner.specs.declared.fault.ScanFault.{ScanFault}
 use Rattle.scanner.specs.declared.fault.ScanFault.TheVariants.{TextTooLong, ForeignByte, WordTooLong, OutOfRange}
 use Rattle.scanner.proofs.Ascents.{Ascending, NotBehind, ascending_append, Climbing, climbing_lower, climbing_ascends, before_pass, passes}
 use Rattle.scanner.proofs.Firsts.{scan_ascends}
-use Rattle.scanner.proofs.Rises.{Rising, rising_lower, lexeme_place, lexemes_rise}
-use Rattle.reader.specs.Definitions.{Kind, functions, globals, enumerations, others, head_kind, kind_faults, definition_faults, unless, formals_fit, locals_fit, function_faults, function_fits, enumeration_fits, last_value, first_place}
+use Rattle.scanner.proofs.Rises.{Rising, lexeme_place, lexemes_rise}
+use Rattle.reader.specs.Definitions.{Kind, functions, globals, enumerations, others, head_kind, kind_faults, unless, formals_fit, locals_fit, function_faults, function_fits, enumeration_fits, last_value, first_place}
 use Rattle.reader.specs.Faults.{form_refusal, shape_faults, forms_of, faults}
 use Rattle.reader.specs.Forms.{Forest, none, named, numbered, form, Pile, grow, first_list, other_lists, fits, misfits, tail}
 use Rattle.reader.specs.Nests.{nest_faults, turn, turn_faults, end_faults}

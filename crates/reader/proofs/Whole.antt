@@ -1,7 +1,7 @@
 -- The reading of a text, from what its passes find.
-use Rattle.std.proofs.Common.{◌≡◌, ℕ, ◌≤◌, Bool, true, false, ltb, List, [], ◌∷◌, ◌++◌, map, length, Some, None, Ok, Err, Option, Result, sym, refl, ap, ◌∙◌, subst, arith}
+use Rattle.std.proofs.Common.{◌≡◌, ℕ, ◌≤◌, Bool, true, false, ltb, List, [], ◌∷◌, ◌++◌, map, length, Ok, Err, sym, refl, ap, ◌∙◌, subst, arith}
 use Rattle.std.proofs.lemmas.Bool.{ltb-false}
-use Rattle.scanner.specs.Faults.{scan_refusal, scan_faults, pieces_faults, least, refused, refused_by, when}
+use Rattle.scanner.specs.Faults.{scan_refusal, scan_faults, pieces_faults, refused, refused_by, when}
 use Rattle.scanner.specs.Pieces.{pieces_of}
 use Rattle.scanner.specs.Scans.{lexemes_of}
 use Rattle.scanner.specs.Words.{Lexeme, opens}

@@ -4,7 +4,6 @@ use Rattle.scanner.specs.Scans.{ahead}
 use Rattle.scanner.specs.declared.token.Word.{Word}
 use Rattle.reader.specs.Forms.{Forest, none, named, numbered, form, grow, tail, count, only_names, misfits}
 use Rattle.reader.specs.Keywords.{keyword}
-use Rattle.reader.specs.Nests.{first_of}
 use Rattle.reader.specs.declared.definition.Definition.{Definition}
 use Rattle.reader.specs.declared.definition.Definition.TheVariants.{Function, Global, Enumeration}
 use Rattle.reader.specs.declared.definition.Function as code

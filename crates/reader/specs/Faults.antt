@@ -1,5 +1,5 @@
 -- All faults of a text, and what it is read as.
-use Rattle.std.specs.Prelude.{ℕ, List, [], ◌∷◌, ◌++◌, map, length, Some, None, Ok, Err, Option, Result}
+use Rattle.std.specs.Prelude.{ℕ, List, [], ◌++◌, map, length, Some, None, Ok, Err, Option, Result}
 use Rattle.scanner.specs.Faults.{refusal, scan_refusal, scan_faults, least}
 use Rattle.scanner.specs.Scans.{lexemes_of}
 use Rattle.scanner.specs.declared.fault.Refusal.{Refusal}

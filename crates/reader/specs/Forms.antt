@@ -1,5 +1,5 @@
 -- The forms that the tokens of a text make.
-use Rattle.std.specs.Prelude.{ℕ, ◌+◌, ◌≤◌, max, Bool, true, false, cond, List, [], ◌∷◌, ◌++◌, length, ℤ, Some, None, Option}
+use Rattle.std.specs.Prelude.{ℕ, ◌+◌, ◌≤◌, max, Bool, true, false, cond, List, [], ◌∷◌, ◌++◌, ℤ, Some, None, Option}
 use Rattle.scanner.specs.Words.{Lexeme, opens, closes, name, number}
 use Rattle.reader.specs.Keywords.{keyword}
 use Rattle.reader.specs.Shapes.{shape, takes}

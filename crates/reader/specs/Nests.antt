@@ -1,9 +1,9 @@
 -- One closed form, and what stands in a text beside it.
-use Rattle.std.specs.Prelude.{ℕ, ◌+◌, ◌-◌, Bool, true, false, cond, List, [], ◌∷◌, ◌++◌, Ok, Err, Result, nat_le}
+use Rattle.std.specs.Prelude.{ℕ, ◌+◌, ◌-◌, cond, List, [], ◌∷◌, ◌++◌, Ok, Err, Result, nat_le}
 use Rattle.scanner.specs.Faults.{when}
 use Rattle.scanner.specs.Words.{Lexeme, opens, closes, name, number}
 use Rattle.reader.specs.declared.fault.FormFault.{FormFault}
-use Rattle.reader.specs.declared.fault.FormFault.TheVariants.{Scan, NotOneForm, TooDeep, NoShape, LastOutOfRange}
+use Rattle.reader.specs.declared.fault.FormFault.TheVariants.{NotOneForm, TooDeep}
 use Rattle.reader.specs.declared.nesting.Nesting.{Nesting}
 use Rattle.reader.specs.declared.nesting.Nesting.TheVariants.{Before, Inside, After}
 

@@ -1,5 +1,5 @@
 -- Which elements each head takes.
-use Rattle.std.specs.Prelude.{ℕ, Bool, true, false, ◌&&◌, ℤ, pos, Some, None, Option, ◌==◌, int_le}
+use Rattle.std.specs.Prelude.{ℕ, Bool, true, false, ◌&&◌, pos, Some, None, Option, ◌==◌, int_le}
 use Rattle.reader.specs.declared.keyword.Keyword.{Keyword}
 use Rattle.reader.specs.declared.keyword.Keyword.TheVariants.{Def, Let, Enum, If, While, Do, Set, Vec, Setv, New, Sys, Add, Sub, Eq, Lt, Gt}
 use Rattle.reader.specs.declared.shape.Lead.{Lead}

@@ -1,5 +1,5 @@
 -- The tokens of an accepted text are those of its definition, written out.
-use Rattle.std.specs.Prelude.{◌≡◌, ℕ, List, [], ◌∷◌, ◌++◌, map, ℤ, Some, Ok, codes}
+use Rattle.std.specs.Prelude.{◌≡◌, ℕ, List, [], ◌∷◌, ◌++◌, map, Some, Ok, codes}
 use Rattle.scanner.specs.Scans.{lexemes_of}
 use Rattle.scanner.specs.Words.{Lexeme, opens, closes, name, number, value}
 use Rattle.reader.specs.Definitions.{Named, Defined, function, global, enumeration}

@@ -2,11 +2,11 @@
 use Rattle.std.proofs.Common.{◌≡◌, ℕ, ◌+◌, ◌*◌, ◌<◌, ◌≤◌, Bool, true, false, cond, ltb, List, [], ◌∷◌, ◌++◌, map, length, ℤ, Some, None, Ok, Err, Option, sym, refl, ap, ◌∙◌, arith}
 use Rattle.std.proofs.lemmas.Bool.{le-ltb, lt-ltb}
 use Rattle.scanner.specs.declared.fault.ScanFault.{ScanFault}
-use Rattle.scanner.specs.declared.fault.ScanFault.TheVariants.{TextTooLong, ForeignByte, WordTooLong, OutOfRange}
+use Rattle.scanner.specs.declared.fault.ScanFault.TheVariants.{TextTooLong, WordTooLong, OutOfRange}
 use Rattle.scanner.specs.Pieces.{Piece, opening, closing, spelled, foreign, pieces_of}
 use Rattle.scanner.specs.Words.{Item, item, in_range, judged, number, value, word_item}
 use Rattle.scanner.specs.Scans.{items_of, sound}
-use Rattle.scanner.specs.Faults.{scan_refusal, least, refused, refused_by, when, out_of_range, piece_faults, pieces_faults, scan_faults}
+use Rattle.scanner.specs.Faults.{scan_refusal, refused, refused_by, when, out_of_range, pieces_faults, scan_faults}
 use Rattle.scanner.proofs.Ascents.{first, least_first, Ascending, ascending_append, Climbing, climbing_lower, climbing_ascends, passes}
 use Rattle.scanner.proofs.Rises.{Rises, rises}
 

@@ -9,7 +9,7 @@ use Rattle.scanner.specs.Pieces.{Piece, piece_place, Mode, between, in_word, inC
 use Rattle.scanner.specs.Laws.{owners, Commented, EachByteOwned}
 use Rattle.scanner.specs.declared.class.Class.{Class}
 use Rattle.scanner.specs.declared.class.Class.TheVariants.{Blank, LineFeed, Open, Close, Semicolon, Letter, Foreign}
-use Rattle.scanner.proofs.Modes.{leads, stays, next, leads_in_comment}
+use Rattle.scanner.proofs.Modes.{stays, next, leads_in_comment}
 use Rattle.scanner.proofs.Places.{byte_of, places_from}
 
 -- where the scanner stands behind i bytes

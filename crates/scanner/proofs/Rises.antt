@@ -1,9 +1,9 @@
 -- The places of the pieces of a text rise, and so do those of its tokens.
-use Rattle.std.proofs.Common.{◌≡◌, ℕ, ◌+◌, ◌<◌, ◌≤◌, Bool, true, false, cond, ltb, List, [], ◌∷◌, map, length, take, drop, ℤ, Some, None, Ok, Err, Option, sym, refl, ap, ◌∙◌, arith, length-drop, length-take}
+use Rattle.std.proofs.Common.{◌≡◌, ℕ, ◌+◌, ◌<◌, ◌≤◌, Bool, true, false, cond, ltb, List, [], ◌∷◌, map, length, take, drop, ℤ, Some, None, Ok, Err, Option, ap, arith, length-drop, length-take}
 use Rattle.std.specs.List.{AllByRecursion as All}
 use Rattle.scanner.specs.Laws.{InOrder, Lettered, Part}
 use Rattle.scanner.specs.Pieces.{Piece, opening, closing, spelled, foreign, piece_place, piece_bytes, pieces_of}
-use Rattle.scanner.specs.Scans.{items_of, lexemes, lexemes_of}
+use Rattle.scanner.specs.Scans.{lexemes, lexemes_of}
 use Rattle.scanner.specs.Words.{Item, item, in_range, judged, Lexeme, opens, closes, name, number, value, word_item}
 use Rattle.scanner.specs.declared.fault.ScanFault.TheVariants.{WordTooLong, OutOfRange}
 use Rattle.scanner.proofs.Apart.{in_order_and_apart}

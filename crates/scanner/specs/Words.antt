@@ -1,7 +1,7 @@
 -- Which words are numbers, and what a piece is as a token.
-use Rattle.std.specs.Prelude.{ℕ, ◌+◌, ◌-◌, ◌*◌, Bool, true, false, cond, ◌&&◌, List, [], ◌∷◌, length, drop, ℤ, pos, negsuc, neg_ℤ, Some, None, Ok, Err, Option, Result, ◌==◌, int_le, nat_le, nat_lt, slice_index}
+use Rattle.std.specs.Prelude.{ℕ, ◌+◌, ◌-◌, ◌*◌, Bool, true, cond, ◌&&◌, List, [], ◌∷◌, length, drop, ℤ, pos, negsuc, neg_ℤ, Some, None, Ok, Err, Option, Result, ◌==◌, int_le, nat_le, nat_lt, slice_index}
 use Rattle.scanner.specs.declared.fault.ScanFault.{ScanFault}
-use Rattle.scanner.specs.declared.fault.ScanFault.TheVariants.{TextTooLong, ForeignByte, WordTooLong, OutOfRange}
+use Rattle.scanner.specs.declared.fault.ScanFault.TheVariants.{ForeignByte, WordTooLong, OutOfRange}
 use Rattle.scanner.specs.Pieces.{Piece, opening, closing, spelled, foreign}
 
 -- the value of decimal digits, behind those with the value n

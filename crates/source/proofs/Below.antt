@@ -1,5 +1,5 @@
 -- Every token of a text stands before its end.
-use Rattle.std.proofs.Common.{◌≡◌, ℕ, ◌+◌, ◌≤◌, List, [], ◌∷◌, length, sym, ap, ◌∙◌, subst, arith}
+use Rattle.std.proofs.Common.{◌≡◌, ℕ, ◌+◌, ◌≤◌, List, [], ◌∷◌, length, sym, subst, arith}
 use Rattle.scanner.specs.Scans.{lexemes_of}
 use Rattle.scanner.specs.Words.{Lexeme}
 use Rattle.scanner.proofs.Rises.{Rising, lexeme_place, lexemes_rise, lexemes_few}

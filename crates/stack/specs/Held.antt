@@ -1,6 +1,6 @@
 -- A stack by its cells and its depth, and what it holds from the top down.
 use Rattle.std.specs.Borrow.{GName}
-use Rattle.std.specs.Prelude.{ℕ, ◌-◌, List, [], ◌∷◌, reverse, take, Some, None, Option}
+use Rattle.std.specs.Prelude.{ℕ, List, [], ◌∷◌, reverse, take, Some, None, Option}
 use Rattle.stack.specs.declared.Stack.{Stack}
 
 module _ {T : Type 0} where

@@ -1,4 +1,4 @@
-use Rattle.std.proofs.Common.{◌≡◌, ◌∷◌, sym, ap, ◌∙◌, arith}
+use Rattle.std.proofs.Common.{◌≡◌, ◌∷◌, ap, arith}
 use Rattle.scanner.specs.Scans.{ahead, lexeme}
 use Rattle.reader.specs.Forms.{count, grow, survey_first}
 use Rattle.reader.proofs.Lists.{both_first, few}

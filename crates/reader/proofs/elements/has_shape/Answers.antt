@@ -1,4 +1,4 @@
-use Rattle.std.proofs.Common.{◌≡◌, ℕ, ◌-◌, Bool, List, ◌∷◌, Some, sym, ap, ◌∙◌, subst, arith, rules}
+use Rattle.std.proofs.Common.{◌≡◌, ℕ, ◌-◌, List, ◌∷◌, Some, sym, ap, ◌∙◌, arith, rules}
 use Rattle.scanner.specs.Scans.{ahead}
 use Rattle.scanner.specs.Words.{Lexeme, name}
 use Rattle.reader.specs.Forms.{count, fits, fits_shape, grow, leading}

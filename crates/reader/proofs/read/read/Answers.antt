@@ -1,6 +1,6 @@
 use Rattle.std.proofs.Common.{◌≡◌, ◌∷◌, sym, ap, ◌∙◌, rules}
 use Rattle.std.proofs.lemmas.Result.{err_from_is_err_and}
-use Rattle.scanner.specs.Scans.{ahead, lexemes, lexemes_of}
+use Rattle.scanner.specs.Scans.{ahead, lexemes}
 use Rattle.scanner.specs.Words.{opens}
 use Rattle.reader.proofs.Spaced.{spacing_is_free}
 use Rattle.reader.proofs.Spelled.{nothing_is_lost}

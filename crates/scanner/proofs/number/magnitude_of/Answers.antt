@@ -1,6 +1,6 @@
-use Rattle.std.proofs.Common.{◌^◌, ◌<◌, length, sym, arith, rules}
+use Rattle.std.proofs.Common.{sym, arith, rules}
 use Rattle.std.proofs.lemmas.Bool.{eqb-true, eqb-false, and_left, and_right, lt-leb}
-use Rattle.scanner.proofs.Numbers.{Read, read_more, read_bad, read_all, read_none, few}
+use Rattle.scanner.proofs.Numbers.{read_more, read_bad, read_all, read_none, few}
 use Rattle.scanner.proofs.number.magnitude_of.Goals as goal
 use Rattle.scanner.proofs.number.magnitude_of.Goals.{then-b-lt48-via-then-b-lt48, then-b-lt48-via-else-b-lt48+then-b-gt57}
 

@@ -1,4 +1,4 @@
-use Rattle.std.proofs.Common.{ℕ, min, take, replicate, ap, ◌∙◌, arith, rules}
+use Rattle.std.proofs.Common.{ℕ, take, replicate, ap, ◌∙◌, arith, rules}
 use Rattle.std.proofs.lemmas.List.{take-replicate}
 use Rattle.rehearsal_host.proofs.rehearsal.RehearsalHost.new.Goals as goal
 

@@ -1,9 +1,9 @@
-use Rattle.std.proofs.Common.{◌≡◌, ℕ, ◌⊎◌, List, ◌∷◌, map, length, drop, sym, refl, ap, ◌∙◌, subst, inl, inr, ⊎_elim, arith, rules}
+use Rattle.std.proofs.Common.{◌≡◌, ℕ, ◌⊎◌, map, length, drop, sym, refl, ap, ◌∙◌, subst, ⊎_elim, arith, rules}
 use Rattle.std.proofs.lemmas.List.{at_drop_all}
 use Rattle.scanner.specs.declared.class.Class.TheVariants.{Letter, LineFeed, Blank, Foreign}
 use Rattle.scanner.specs.declared.scanner.Scanner.{Scanner}
 use Rattle.scanner.specs.declared.scanner.State.{State}
-use Rattle.scanner.specs.Pieces.{Piece, pieces, between, inComment, in_word}
+use Rattle.scanner.specs.Pieces.{pieces, between, inComment}
 use Rattle.scanner.specs.Scans.{mode}
 use Rattle.scanner.specs.Words.{item}
 use Rattle.scanner.proofs.Steps.{Owed, longer, starts, ended, ended_all, look, hushes, nothing}
