@@ -1,6 +1,6 @@
 -- A record and its facts make each other.
 use Rattle.std.proofs.Common.{◌≡◌, ℕ, ◌+◌, ◌*◌, ◌<◌, ◌≤◌, eqb, ltb, List, [], ◌∷◌, map, length, get_or, drop, ℤ, Ok, Err, sym, refl, ap, ◌∙◌, arith, w8, w32, Fits, SFits, to_z, of_z}
-use Rattle.std.specs.List.{AllByRecursion as All}
+use Rattle.std.specs.List.{AllByRecursion}
 use Rattle.std.proofs.ByRecursion.{All-from_get_or}
 use Rattle.std.proofs.lemmas.List.{length-map}
 use Rattle.std.proofs.lemmas.Int.{ints, of_z-to_z, to_z-of_z}
@@ -14,33 +14,33 @@ use Rattle.live_host.specs.declared.record.RecordFault.TheVariants.{Short, TooMa
 use Rattle.live_host.proofs.Accepted.{all_within, sound}
 
 -- numbers of four bytes
-words_small : (bs : List ℕ) → All (λ b. b < 256) bs → All (λ w. w < 4294967296) (words_in bs)
+words_small : (bs : List ℕ) → AllByRecursion (λ b. b < 256) bs → AllByRecursion (λ w. w < 4294967296) (words_in bs)
 words_small [] h = tt
 words_small (a ∷ []) h = tt
 words_small (a ∷ b ∷ []) h = tt
 words_small (a ∷ b ∷ c ∷ []) h = tt
 words_small (a ∷ b ∷ c ∷ d ∷ rest) h = (omega (arith, h.0, h.1.0, h.1.1.0, h.1.1.1.0), words_small rest h.1.1.1.1)
 
-unsigned_again : (ws : List ℕ) → All (λ w. w < 4294967296) ws → map (of_z w32) (map (to_z w32) ws) ≡ ws
+unsigned_again : (ws : List ℕ) → AllByRecursion (λ w. w < 4294967296) ws → map (of_z w32) (map (to_z w32) ws) ≡ ws
 unsigned_again [] h = refl
 unsigned_again (w ∷ ws) h = ap (λ (x : ℕ). x ∷ map (of_z w32) (map (to_z w32) ws)) (of_z-to_z w32 w h.0) ∙ ap (λ (l : List ℕ). w ∷ l) (unsigned_again ws h.1)
 
-signed_again : (zs : List ℤ) → All (SFits w32) zs → map (to_z w32) (map (of_z w32) zs) ≡ zs
+signed_again : (zs : List ℤ) → AllByRecursion (SFits w32) zs → map (to_z w32) (map (of_z w32) zs) ≡ zs
 signed_again [] h = refl
 signed_again (z ∷ zs) h = ap (λ (x : ℤ). x ∷ map (to_z w32) (map (of_z w32) zs)) (to_z-of_z w32 z h.0) ∙ ap (λ (l : List ℤ). z ∷ l) (signed_again zs h.1)
 
-unsigned_small : (zs : List ℤ) → All (SFits w32) zs → All (λ w. w < 4294967296) (map (of_z w32) zs)
+unsigned_small : (zs : List ℤ) → AllByRecursion (SFits w32) zs → AllByRecursion (λ w. w < 4294967296) (map (of_z w32) zs)
 unsigned_small [] h = tt
 unsigned_small (z ∷ zs) h = (let f = h.0 in omega (arith, ints), unsigned_small zs h.1)
 
 cons : {x y : ℕ} {xs ys : List ℕ} → x ≡ y → xs ≡ ys → x ∷ xs ≡ y ∷ ys
 cons p q = cc
 
-body_again : (ns : List ℕ) (n : ℕ) → length ns ≡ 4 * n → All (λ b. b < 256) ns → words_bytes (map (of_z w32) (cells_of ns)) ≡ ns
+body_again : (ns : List ℕ) (n : ℕ) → length ns ≡ 4 * n → AllByRecursion (λ b. b < 256) ns → words_bytes (map (of_z w32) (cells_of ns)) ≡ ns
 body_again ns n e h = ap words_bytes (unsigned_again (words_in ns) (words_small ns h)) ∙ bytes_again ns n e h
 
 -- the bytes are those of the facts in them
-made_again : (bytes ns : List ℕ) → All (λ b. b < 256) bytes → Ok ns ≡ body bytes → record_bytes (cells_of (drop 6 bytes)) ≡ bytes
+made_again : (bytes ns : List ℕ) → AllByRecursion (λ b. b < 256) bytes → Ok ns ≡ body bytes → record_bytes (cells_of (drop 6 bytes)) ≡ bytes
 made_again bytes ns h e =
     let p = sound bytes ns e in
     let long = ltb-false (length bytes) 6 p.whole in
@@ -48,7 +48,7 @@ made_again bytes ns h e =
     let k = and_parts (eqb (get_or bytes 1 0) 83) (eqb (get_or bytes 2 0) 72) m.1 in
     six bytes h long (eqb-true _ 80 m.0) (eqb-true _ 83 k.0) (eqb-true _ 72 k.1) (eqb-true (version bytes) 1 p.first_version) (eqb-true (length bytes) (6 + 4 * told_count bytes) p.size)
   where
-    six : (bs : List ℕ) → All (λ b. b < 256) bs → 6 ≤ length bs → get_or bs 0 0 ≡ 80 → get_or bs 1 0 ≡ 83 → get_or bs 2 0 ≡ 72 → version bs ≡ 1 → length bs ≡ 6 + 4 * told_count bs → record_bytes (cells_of (drop 6 bs)) ≡ bs
+    six : (bs : List ℕ) → AllByRecursion (λ b. b < 256) bs → 6 ≤ length bs → get_or bs 0 0 ≡ 80 → get_or bs 1 0 ≡ 83 → get_or bs 2 0 ≡ 72 → version bs ≡ 1 → length bs ≡ 6 + 4 * told_count bs → record_bytes (cells_of (drop 6 bs)) ≡ bs
     six [] a l q r s v z = absurd (omega arith)
     six (x0 ∷ []) a l q r s v z = absurd (omega arith)
     six (x0 ∷ x1 ∷ []) a l q r s v z = absurd (omega arith)

@@ -2,7 +2,7 @@
 use Rattle.std.specs.Prelude.{◌≡◌, ℕ, ◌+◌, ◌*◌, ◌≤◌, Bool, cond, ◌&&◌, List, [], ◌∷◌, map, length, drop, ℤ, Ok, Err, Result, FitsSigned, ◌==◌, nat_lt, slice_index}
 use Rattle.std.specs.Int.{w32}
 use Rattle.std.proofs.Common.{of_z}
-use Rattle.std.specs.List.{AllByRecursion as All}
+use Rattle.std.specs.List.{AllByRecursion}
 use Rattle.runtime.specs.First.{first}
 use Rattle.packing.specs.Packing.{cells_of, words_bytes}
 use Rattle.live_host.specs.declared.record.PushRecord.{PushRecord}
@@ -57,4 +57,4 @@ read (Err fault) = Err fault
 
 -- every list of at most 64 facts can be sent: its record is accepted, and has these facts
 abbrev pub Sent : Type 0
-Sent = (facts : List ℤ) → length facts ≤ 64 → All (FitsSigned w32) facts → facts_in (record_bytes facts) ≡ facts
+Sent = (facts : List ℤ) → length facts ≤ 64 → AllByRecursion (FitsSigned w32) facts → facts_in (record_bytes facts) ≡ facts

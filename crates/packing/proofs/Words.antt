@@ -2,7 +2,7 @@
 use Rattle.std.proofs.Common.{◌≡◌, ℕ, zero, suc, ◌+◌, ◌-◌, ◌*◌, ◌/◌, ◌%◌, ◌<◌, ◌≤◌, List, [], ◌∷◌, ◌++◌, length, get_or, set, Some, None, sym, refl, ap, ◌∙◌, arith}
 use Rattle.std.proofs.lemmas.Nat.{shr-shr, div-add-mod'}
 use Rattle.std.proofs.lemmas.Option.{slice_get-get_or, slice_get_past}
-use Rattle.std.specs.List.{AllByRecursion as All, slice_get}
+use Rattle.std.specs.List.{AllByRecursion, slice_get}
 use Rattle.packing.specs.Packing.{four, packed_in, word_bytes, words_in, words_bytes}
 
 pub length_words : (bs : List ℕ) → length (words_in bs) ≡ length bs / 4
@@ -44,7 +44,7 @@ digits n h =
     (ap (λ (q : ℕ). q * 256 + n / 65536 % 256) (sym (shr-shr n 16 8)) ∙ div-add-mod' (n / 65536) 256)
     (omega arith)
 
-pub words_again : (ws : List ℕ) → All (λ w. w < 4294967296) ws → words_in (words_bytes ws) ≡ ws
+pub words_again : (ws : List ℕ) → AllByRecursion (λ w. w < 4294967296) ws → words_in (words_bytes ws) ≡ ws
 words_again [] h = refl
 words_again (w ∷ ws) h = ap (λ (x : ℕ). x ∷ words_in (words_bytes ws)) (digits w h.0) ∙ ap (λ (r : List ℕ). w ∷ r) (words_again ws h.1)
 
@@ -75,7 +75,7 @@ four_bytes a b c d ha hb hc hd =
     ∙ ap (λ (x : ℕ). a ∷ b ∷ x ∷ (n / 16777216 % 256) ∷ []) e2
     ∙ ap (λ (x : ℕ). a ∷ b ∷ c ∷ x ∷ []) e3
 
-pub bytes_again : (bs : List ℕ) (n : ℕ) → length bs ≡ 4 * n → All (λ b. b < 256) bs → words_bytes (words_in bs) ≡ bs
+pub bytes_again : (bs : List ℕ) (n : ℕ) → length bs ≡ 4 * n → AllByRecursion (λ b. b < 256) bs → words_bytes (words_in bs) ≡ bs
 bytes_again [] n e h = refl
 bytes_again (a ∷ []) n e h = absurd (omega arith)
 bytes_again (a ∷ b ∷ []) n e h = absurd (omega arith)

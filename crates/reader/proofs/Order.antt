@@ -1,7 +1,7 @@
 -- The faults of a text stand in order: none comes before one that is listed earlier.
 use Rattle.std.proofs.Common.{◌≡◌, ℕ, ◌+◌, ◌*◌, ◌<◌, ◌≤◌, Bool, true, false, cond, leb, List, [], ◌∷◌, ◌++◌, map, length, pos, refl, arith}
 use lib.Signed.{le_z}
-use Rattle.std.specs.List.{AllByRecursion as All}
+use Rattle.std.specs.List.{AllByRecursion}
 use Rattle.std.proofs.ByRecursion.{All-append}
 use Rattle.scanner.specs.Faults.{scan_refusal, scan_faults, when}
 use Rattle.scanner.specs.Scans.{lexemes_of}
@@ -21,7 +21,7 @@ use Rattle.reader.specs.declared.nesting.Nesting.{Nesting}
 use Rattle.reader.specs.declared.nesting.Nesting.TheVariants.{Before, Inside, After}
 
 -- the scanner's faults keep their order
-scans : (f : ScanFault) (fs : List ScanFault) → All (NotBehind scan_refusal f) fs → All (NotBehind form_refusal (Scan f)) (map Scan fs)
+scans : (f : ScanFault) (fs : List ScanFault) → AllByRecursion (NotBehind scan_refusal f) fs → AllByRecursion (NotBehind form_refusal (Scan f)) (map Scan fs)
 scans f [] h = tt
 scans f (g ∷ gs) h = (h.0, scans f gs h.1)
 
@@ -193,11 +193,11 @@ scan_pass (ForeignByte p) = omega arith
 scan_pass (WordTooLong p) = omega arith
 scan_pass (OutOfRange p) = omega arith
 
-scan_early : (k y : ℕ) (fs : List ScanFault) (gs : List FormFault) → 2 < k → Climbing form_refusal k y gs → All (λ f. All (NotBehind form_refusal f) gs) (map Scan fs)
+scan_early : (k y : ℕ) (fs : List ScanFault) (gs : List FormFault) → 2 < k → Climbing form_refusal k y gs → AllByRecursion (λ f. AllByRecursion (NotBehind form_refusal f) gs) (map Scan fs)
 scan_early k y [] gs lt b = tt
 scan_early k y (f ∷ fs) gs lt b = (before_pass form_refusal k y (Scan f) gs (omega (arith, scan_pass f)) b, scan_early k y fs gs lt b)
 
-early_both : (fs gs hs : List FormFault) → All (λ f. All (NotBehind form_refusal f) gs) fs → All (λ f. All (NotBehind form_refusal f) hs) fs → All (λ f. All (NotBehind form_refusal f) (gs ++ hs)) fs
+early_both : (fs gs hs : List FormFault) → AllByRecursion (λ f. AllByRecursion (NotBehind form_refusal f) gs) fs → AllByRecursion (λ f. AllByRecursion (NotBehind form_refusal f) hs) fs → AllByRecursion (λ f. AllByRecursion (NotBehind form_refusal f) (gs ++ hs)) fs
 early_both [] gs hs a b = tt
 early_both (f ∷ fs) gs hs a b = (All-append (NotBehind form_refusal f) gs hs a.0 b.0, early_both fs gs hs a.1 b.1)
 

@@ -1,6 +1,6 @@
 -- Every number in a text has the value of its word.
 use Rattle.std.proofs.Common.{◌≡◌, ℕ, Bool, true, false, cond, ltb, List, [], ◌∷◌, map, length, ℤ, Some, None, Ok, Err, Option, refl}
-use Rattle.std.specs.List.{AllByRecursion as All}
+use Rattle.std.specs.List.{AllByRecursion}
 use Rattle.scanner.specs.Pieces.{Piece, opening, closing, spelled, foreign, pieces_of}
 use Rattle.scanner.specs.Scans.{lexemes, lexemes_of}
 use Rattle.scanner.specs.Words.{Lexeme, opens, closes, name, number, Item, item, in_range, judged, value, word_item}
@@ -14,16 +14,16 @@ Valued (closes p) = Unit {0}
 Valued (name w p) = Unit {0}
 Valued (number w v p) = value w ≡ Some v
 
-judged_valued : (b : Bool) (v : ℤ) (w : List ℕ) (p : ℕ) (is : List Item) → value w ≡ Some v → All Valued (lexemes is) → All Valued (lexemes (cond b (Ok (number w v p)) (Err (OutOfRange p)) ∷ is))
+judged_valued : (b : Bool) (v : ℤ) (w : List ℕ) (p : ℕ) (is : List Item) → value w ≡ Some v → AllByRecursion Valued (lexemes is) → AllByRecursion Valued (lexemes (cond b (Ok (number w v p)) (Err (OutOfRange p)) ∷ is))
 judged_valued true v w p is e h = (e, h)
 judged_valued false v w p is e h = h
 
-word_valued : (b : Bool) (o : Option ℤ) (w : List ℕ) (p : ℕ) (is : List Item) → value w ≡ o → All Valued (lexemes is) → All Valued (lexemes (cond b (Err (WordTooLong p)) (judged o w p) ∷ is))
+word_valued : (b : Bool) (o : Option ℤ) (w : List ℕ) (p : ℕ) (is : List Item) → value w ≡ o → AllByRecursion Valued (lexemes is) → AllByRecursion Valued (lexemes (cond b (Err (WordTooLong p)) (judged o w p) ∷ is))
 word_valued true o w p is e h = h
 word_valued false None w p is e h = (tt, h)
 word_valued false (Some v) w p is e h = judged_valued (in_range v) v w p is e h
 
-lexemes_valued : (xs : List Piece) → All Valued (lexemes (map item xs))
+lexemes_valued : (xs : List Piece) → AllByRecursion Valued (lexemes (map item xs))
 unfolding word_item
 lexemes_valued [] = tt
 lexemes_valued (opening p ∷ xs) = (tt, lexemes_valued xs)
@@ -38,13 +38,13 @@ ValuedForest (numbered w v p rest) = (value w ≡ Some v) × ValuedForest rest
 ValuedForest (form p f rest) = ValuedForest f × ValuedForest rest
 
 abbrev ValuedPile : Pile → Type 0
-ValuedPile s = ValuedForest s.here × All ValuedForest s.around
+ValuedPile s = ValuedForest s.here × AllByRecursion ValuedForest s.around
 
-form_valued : (p : ℕ) (f : Forest) (fs : List Forest) → ValuedForest f → All ValuedForest fs → ValuedPile (record { here = form p f (first_list fs); around = other_lists fs })
+form_valued : (p : ℕ) (f : Forest) (fs : List Forest) → ValuedForest f → AllByRecursion ValuedForest fs → ValuedPile (record { here = form p f (first_list fs); around = other_lists fs })
 form_valued p f [] h hs = ((h, tt), tt)
 form_valued p f (g ∷ fs) h hs = ((h, hs.0), hs.1)
 
-pile_valued : (ls : List Lexeme) → All Valued ls → ValuedPile (grow ls)
+pile_valued : (ls : List Lexeme) → AllByRecursion Valued ls → ValuedPile (grow ls)
 pile_valued [] h = (tt, tt)
 pile_valued (opens p ∷ ls) h = let s = pile_valued ls h.1 in form_valued p (grow ls).here (grow ls).around s.0 s.1
 pile_valued (closes p ∷ ls) h = (tt, pile_valued ls h.1)

@@ -1,6 +1,6 @@
 -- The pieces follow each other, and between two words something stands.
 use Rattle.std.proofs.Common.{◌≡◌, ℕ, ◌+◌, ◌<◌, ◌≤◌, true, false, List, [], ◌∷◌, length, refl, ap, subst, arith}
-use Rattle.std.specs.List.{AllByRecursion as All}
+use Rattle.std.specs.List.{AllByRecursion}
 use Rattle.std.proofs.ByRecursion.{All-weaker}
 use Rattle.std.proofs.lemmas.Bool.{both_ways}
 use Rattle.scanner.specs.Bytes.{class}
@@ -14,22 +14,22 @@ use Rattle.scanner.proofs.Places.{places_from}
 abbrev Behind : ℕ → Piece → Type 0
 Behind n x = (n ≤ piece_place x) × (is_word x ≡ true → n < piece_place x)
 
-later_behind : (p : ℕ) (xs : List Piece) → All (λ x. p + 1 ≤ piece_place x) xs → All (Behind p) xs
+later_behind : (p : ℕ) (xs : List Piece) → AllByRecursion (λ x. p + 1 ≤ piece_place x) xs → AllByRecursion (Behind p) xs
 later_behind p = All-weaker (λ x. p + 1 ≤ piece_place x) (Behind p) (λ x h. (omega arith, λ _. omega arith))
 
 here_behind : (p : ℕ) (x : Piece) → piece_place x ≡ p → is_word x ≡ false → Behind p x
 here_behind p x e lone = (omega arith, λ word. absurd (both_ways (is_word x) lone word))
 
 -- the pieces behind a word of which the letters w are left behind the byte b
-module _ (b p : ℕ) (w v : List ℕ) (go : Mode → List Piece) (later : (n : Mode) → All (λ x. p + 1 ≤ piece_place x) (go n)) where
-  past : (n : Mode) → All (Behind p) (go n)
+module _ (b p : ℕ) (w v : List ℕ) (go : Mode → List Piece) (later : (n : Mode) → AllByRecursion (λ x. p + 1 ≤ piece_place x) (go n)) where
+  past : (n : Mode) → AllByRecursion (Behind p) (go n)
   past n = later_behind p (go n) (later n)
 
-  ended : (xs : List Piece) → All (Behind p) xs → All (Behind (p + 0)) xs
-  ended xs h = let e : p ≡ p + 0 = omega arith in subst (λ n. All (Behind n) xs) e h
+  ended : (xs : List Piece) → AllByRecursion (Behind p) xs → AllByRecursion (Behind (p + 0)) xs
+  ended xs h = let e : p ≡ p + 0 = omega arith in subst (λ n. AllByRecursion (Behind n) xs) e h
 
-  word_step : (k : Class) → All (Behind (p + 1 + length w)) (go in_word) → All (Behind (p + length (if_letter k (b ∷ w)))) (inside k b p v go)
-  word_step Letter h = let e : p + 1 + length w ≡ p + length (b ∷ w) = omega arith in subst (λ n. All (Behind n) (go in_word)) e h
+  word_step : (k : Class) → AllByRecursion (Behind (p + 1 + length w)) (go in_word) → AllByRecursion (Behind (p + length (if_letter k (b ∷ w)))) (inside k b p v go)
+  word_step Letter h = let e : p + 1 + length w ≡ p + length (b ∷ w) = omega arith in subst (λ n. AllByRecursion (Behind n) (go in_word)) e h
   word_step Blank h = ended (go between) (past between)
   word_step LineFeed h = ended (go between) (past between)
   word_step Open h = ended (opening p ∷ go between) (here_behind p (opening p) refl refl, past between)
@@ -37,19 +37,19 @@ module _ (b p : ℕ) (w v : List ℕ) (go : Mode → List Piece) (later : (n : M
   word_step Semicolon h = ended (go inComment) (past inComment)
   word_step Foreign h = ended (foreign b p ∷ go between) (here_behind p (foreign b p) refl refl, past between)
 
-behind_word : (p : ℕ) (bs : List ℕ) → All (Behind (p + length (letters bs))) (pieces in_word p bs)
+behind_word : (p : ℕ) (bs : List ℕ) → AllByRecursion (Behind (p + length (letters bs))) (pieces in_word p bs)
 behind_word p [] = tt
 behind_word p (b ∷ bs) = word_step b p (letters bs) (letters (b ∷ bs)) (λ n. pieces n (p + 1) bs) (λ n. places_from n (p + 1) bs) (class b) (behind_word (p + 1) bs)
 
-clear : (x : Piece) (xs : List Piece) → All (Behind (piece_end x)) xs → Clear x xs
+clear : (x : Piece) (xs : List Piece) → AllByRecursion (Behind (piece_end x)) xs → Clear x xs
 clear x [] h = tt
 clear x (y ∷ ys) h = (h.0.0, λ _. h.0.1)
 
-lone_clear : (x : Piece) (p : ℕ) (xs : List Piece) → piece_end x ≡ p + 1 → is_word x ≡ false → All (λ y. p + 1 ≤ piece_place y) xs → Clear x xs
+lone_clear : (x : Piece) (p : ℕ) (xs : List Piece) → piece_end x ≡ p + 1 → is_word x ≡ false → AllByRecursion (λ y. p + 1 ≤ piece_place y) xs → Clear x xs
 lone_clear x p [] e lone h = tt
 lone_clear x p (y ∷ ys) e lone h = (omega (arith, h.0), λ word. absurd (both_ways (is_word x) lone word))
 
-module _ (b p : ℕ) (w : List ℕ) (go : Mode → List Piece) (later : (n : Mode) → All (λ x. p + 1 ≤ piece_place x) (go n)) (order : (n : Mode) → InOrder (go n)) where
+module _ (b p : ℕ) (w : List ℕ) (go : Mode → List Piece) (later : (n : Mode) → AllByRecursion (λ x. p + 1 ≤ piece_place x) (go n)) (order : (n : Mode) → InOrder (go n)) where
   opens : (n : Mode) → InOrder (opening p ∷ go n)
   opens n = (lone_clear (opening p) p (go n) refl refl (later n), order n)
 
@@ -87,7 +87,7 @@ word_clear : (p b : ℕ) (bs : List ℕ) → class b ≡ Letter → Clear (spell
 word_clear p b bs e =
     let some : length (letters (b ∷ bs)) ≡ length (b ∷ letters bs) = ap (λ k. length (if_letter k (b ∷ letters bs))) e in
     let end : p + 1 + length (letters bs) ≡ p + length (letters (b ∷ bs)) = omega arith in
-    clear (spelled (letters (b ∷ bs)) p) (pieces in_word (p + 1) bs) (subst (λ n. All (Behind n) (pieces in_word (p + 1) bs)) end (behind_word (p + 1) bs))
+    clear (spelled (letters (b ∷ bs)) p) (pieces in_word (p + 1) bs) (subst (λ n. AllByRecursion (Behind n) (pieces in_word (p + 1) bs)) end (behind_word (p + 1) bs))
 
 in_order : (m : Mode) (p : ℕ) (bs : List ℕ) → InOrder (pieces m p bs)
 in_order m p [] = tt

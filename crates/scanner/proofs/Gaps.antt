@@ -1,6 +1,6 @@
 -- A gap between tokens only moves the pieces behind it.
 use Rattle.std.proofs.Common.{◌≡◌, ℕ, ◌+◌, List, [], ◌∷◌, ◌++◌, map, length, sym, refl, ap, ◌∙◌, subst, append_assoc, arith, length-append}
-use Rattle.std.specs.List.{AllByRecursion as All}
+use Rattle.std.specs.List.{AllByRecursion}
 use Rattle.scanner.specs.Bytes.{class}
 use Rattle.scanner.specs.Gaps.{Gap, nothing, blank, line_feed, comment, Hushed, moved, at_place, GapMovesPieces}
 use Rattle.scanner.specs.Pieces.{Piece, Mode, between, in_word, inComment, if_letter, letters, step, pieces}
@@ -60,7 +60,7 @@ step_hushed Close x p w go ne = refl
 step_hushed Semicolon x p w go ne = refl
 step_hushed Letter x p w go ne = refl
 
-pieces_comment : (p q : ℕ) (c r : List ℕ) → All Hushed c → q ≡ p + length c + 1 → pieces inComment p (c ++ (10 ∷ r)) ≡ pieces between q r
+pieces_comment : (p q : ℕ) (c r : List ℕ) → AllByRecursion Hushed c → q ≡ p + length c + 1 → pieces inComment p (c ++ (10 ∷ r)) ≡ pieces between q r
 pieces_comment p q [] r h e = ap (λ n. pieces between n r) (omega arith)
 pieces_comment p q (x ∷ c) r h e =
     step_hushed (class x) x p (letters (x ∷ (c ++ (10 ∷ r)))) (λ m. pieces m (p + 1) (c ++ (10 ∷ r))) h.0

@@ -1,6 +1,6 @@
 -- To how many pieces each byte of a text belongs: its class says it, and where the scanner stands before it.
 use Rattle.std.proofs.Common.{◌≡◌, ℕ, zero, suc, ◌+◌, ◌<◌, ◌≤◌, cond, ltb, ◌⊎◌, List, [], ◌∷◌, length, get_or, sym, refl, ap, ◌∙◌, subst, inl, inr, ⊎_elim, zero-add, arith}
-use Rattle.std.specs.List.{AllByRecursion as All}
+use Rattle.std.specs.List.{AllByRecursion}
 use Rattle.std.proofs.ByRecursion.{All-weaker}
 use Rattle.std.proofs.lemmas.Bool.{cases_lt}
 use Rattle.std.proofs.lemmas.Bool.Decides.{nat_tests}
@@ -53,7 +53,7 @@ begun between i w = 0
 begun in_word i w = cond (ltb i (length w)) 1 0
 begun inComment i w = 0
 
-none_before : (i : ℕ) (xs : List Piece) → All (λ x. i < piece_place x) xs → owners i xs ≡ 0
+none_before : (i : ℕ) (xs : List Piece) → AllByRecursion (λ x. i < piece_place x) xs → owners i xs ≡ 0
 none_before i [] h = refl
 none_before i (x ∷ xs) h = let l = h.0 in let n = none_before i xs h.1 in grind (arith, nat_tests)
 

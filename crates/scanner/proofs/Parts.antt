@@ -1,6 +1,6 @@
 -- Every piece is the part of the text at its place, and a word is letters.
 use Rattle.std.proofs.Common.{◌≡◌, ℕ, ◌+◌, List, [], ◌∷◌, length, take, drop, sym, refl, ap, ◌∙◌, arith}
-use Rattle.std.specs.List.{AllByRecursion as All}
+use Rattle.std.specs.List.{AllByRecursion}
 use Rattle.std.proofs.lemmas.List.{drop-drop}
 use Rattle.scanner.specs.Bytes.{class}
 use Rattle.scanner.specs.Pieces.{spelled, Mode, between, letters, if_letter, pieces}
@@ -22,11 +22,11 @@ letters_front (b ∷ bs) = front (class b) (letters_front bs)
     front Semicolon h = refl
     front Foreign h = refl
 
-letters_all : (bs : List ℕ) → All (λ b. class b ≡ Letter) (letters bs)
+letters_all : (bs : List ℕ) → AllByRecursion (λ b. class b ≡ Letter) (letters bs)
 letters_all [] = tt
 letters_all (b ∷ bs) = all (class b) refl (letters_all bs)
   where
-    all : (k : Class) → class b ≡ k → All (λ b. class b ≡ Letter) (letters bs) → All (λ b. class b ≡ Letter) (if_letter k (b ∷ letters bs))
+    all : (k : Class) → class b ≡ k → AllByRecursion (λ b. class b ≡ Letter) (letters bs) → AllByRecursion (λ b. class b ≡ Letter) (if_letter k (b ∷ letters bs))
     all Letter e h = (e, h)
     all Blank e h = tt
     all LineFeed e h = tt
@@ -50,7 +50,7 @@ module _ (text : List ℕ) (p b : ℕ) (bs : List ℕ) (rest : drop p text ≡ b
   behind : drop (p + 1) text ≡ bs
   behind = sym (drop-drop 1 p text) ∙ ap (drop 1) rest
 
-parts_from : (text : List ℕ) (m : Mode) (p : ℕ) (bs : List ℕ) → drop p text ≡ bs → All (λ x. Part text x × Lettered x) (pieces m p bs)
+parts_from : (text : List ℕ) (m : Mode) (p : ℕ) (bs : List ℕ) → drop p text ≡ bs → AllByRecursion (λ x. Part text x × Lettered x) (pieces m p bs)
 parts_from text m p [] rest = tt
 parts_from text m p (b ∷ bs) rest =
     all_step (λ x. Part text x × Lettered x) m (class b) b p (letters (b ∷ bs)) (λ n. pieces n (p + 1) bs)

@@ -1,6 +1,6 @@
 -- What the class of a byte says of it, and what holds of every piece, one byte after another.
 use Rattle.std.proofs.Common.{◌≡◌, ℕ, ◌+◌, ◌≤◌, ◌&&◌, ◌||◌, eqb, leb, List, [], ◌∷◌, refl, subst, arith}
-use Rattle.std.specs.List.{AllByRecursion as All}
+use Rattle.std.specs.List.{AllByRecursion}
 use Rattle.std.proofs.ByRecursion.{All-weaker}
 use Rattle.std.proofs.lemmas.Bool.{cond_both, eqb-true}
 use Rattle.scanner.specs.Bytes.{class}
@@ -33,7 +33,7 @@ pub byte_of : (k : Class) (b : ℕ) → class b ≡ k → Told k b
 byte_of k b e = subst (λ k. Told k b) e (told b)
 
 -- what holds of every piece holds of those from one byte on
-pub all_step : (P : Piece → Type 0) (m : Mode) (k : Class) (b p : ℕ) (w : List ℕ) (go : Mode → List Piece) → (k ≡ Open → P (opening p)) → (k ≡ Close → P (closing p)) → (k ≡ Letter → P (spelled w p)) → (k ≡ Foreign → P (foreign b p)) → ((n : Mode) → All P (go n)) → All P (step m k b p w go)
+pub all_step : (P : Piece → Type 0) (m : Mode) (k : Class) (b p : ℕ) (w : List ℕ) (go : Mode → List Piece) → (k ≡ Open → P (opening p)) → (k ≡ Close → P (closing p)) → (k ≡ Letter → P (spelled w p)) → (k ≡ Foreign → P (foreign b p)) → ((n : Mode) → AllByRecursion P (go n)) → AllByRecursion P (step m k b p w go)
 all_step P between Blank b p w go o c l f h = h between
 all_step P between LineFeed b p w go o c l f h = h between
 all_step P between Open b p w go o c l f h = (o refl, h between)
@@ -56,7 +56,7 @@ all_step P inComment Semicolon b p w go o c l f h = h inComment
 all_step P inComment Letter b p w go o c l f h = h inComment
 all_step P inComment Foreign b p w go o c l f h = (f refl, h inComment)
 
-pub places_from : (m : Mode) (p : ℕ) (bs : List ℕ) → All (λ x. p ≤ piece_place x) (pieces m p bs)
+pub places_from : (m : Mode) (p : ℕ) (bs : List ℕ) → AllByRecursion (λ x. p ≤ piece_place x) (pieces m p bs)
 places_from m p [] = tt
 places_from m p (b ∷ bs) =
     let here : p ≤ p = omega arith in

@@ -1,6 +1,6 @@
 -- The places of the pieces of a text rise, and so do those of its tokens.
 use Rattle.std.proofs.Common.{◌≡◌, ℕ, ◌+◌, ◌<◌, ◌≤◌, Bool, true, false, cond, ltb, List, [], ◌∷◌, map, length, take, drop, ℤ, Some, None, Ok, Err, Option, ap, arith, length-drop, length-take}
-use Rattle.std.specs.List.{AllByRecursion as All}
+use Rattle.std.specs.List.{AllByRecursion}
 use Rattle.scanner.specs.Laws.{InOrder, Lettered, Part}
 use Rattle.scanner.specs.Pieces.{Piece, opening, closing, spelled, foreign, piece_place, piece_bytes, pieces_of}
 use Rattle.scanner.specs.Scans.{lexemes, lexemes_of}
@@ -27,11 +27,11 @@ module _ (text : List ℕ) where
       let long : length (take n (drop (piece_place x) text)) ≡ n = ap length part in
       omega (arith, some_bytes x l, long, length-take n (drop (piece_place x) text), length-drop (piece_place x) text)
 
-  rises_behind : (x : Piece) (xs : List Piece) → Part text x × Lettered x → All (λ y. Part text y × Lettered y) xs → InOrder (x ∷ xs) → Rises (piece_place x + 1) (length text) xs
+  rises_behind : (x : Piece) (xs : List Piece) → Part text x × Lettered x → AllByRecursion (λ y. Part text y × Lettered y) xs → InOrder (x ∷ xs) → Rises (piece_place x + 1) (length text) xs
   rises_behind x [] l ls o = place_below x l.0 l.1
   rises_behind x (y ∷ ys) l ls o = (omega (arith, o.0.0, some_bytes x l.1), rises_behind y ys ls.0 ls.1 o.1)
 
-  rises_from_0 : (xs : List Piece) → All (λ y. Part text y × Lettered y) xs → InOrder xs → Rises 0 (length text) xs
+  rises_from_0 : (xs : List Piece) → AllByRecursion (λ y. Part text y × Lettered y) xs → InOrder xs → Rises 0 (length text) xs
   rises_from_0 [] ls o = omega arith
   rises_from_0 (x ∷ xs) ls o = (omega arith, rises_behind x xs ls.0 ls.1 o)
 

@@ -1,6 +1,6 @@
 -- Blanks, line feeds and comments between the tokens of a text.
 use Rattle.std.specs.Prelude.{◌≡◌, ℕ, ◌+◌, ◌-◌, cond, List, [], ◌∷◌, ◌++◌, map, length, ◌≢◌, nat_lt, slice_index}
-use Rattle.std.specs.List.{AllByRecursion as All}
+use Rattle.std.specs.List.{AllByRecursion}
 use Rattle.scanner.specs.Bytes.{class}
 use Rattle.scanner.specs.Laws.{Commented}
 use Rattle.scanner.specs.Pieces.{Piece, opening, closing, spelled, foreign, pieces_of}
@@ -15,7 +15,7 @@ pub data Gap : List ℕ → Type 0 where
   nothing : Gap []
   blank : {g : List ℕ} (b : ℕ) → class b ≡ Blank → Gap g → Gap (b ∷ g)
   line_feed : {g : List ℕ} → Gap g → Gap (10 ∷ g)
-  comment : {g : List ℕ} (c : List ℕ) → All Hushed c → Gap g → Gap (59 ∷ (c ++ (10 ∷ g)))
+  comment : {g : List ℕ} (c : List ℕ) → AllByRecursion Hushed c → Gap g → Gap (59 ∷ (c ++ (10 ∷ g)))
 
 -- between a and b no comment is open, and no word goes on
 pub record BetweenTokens (a b : List ℕ) : Type 0 where

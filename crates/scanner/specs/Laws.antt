@@ -1,6 +1,6 @@
 -- What the pieces of every text are, said without the scanner.
 use Rattle.std.specs.Prelude.{◌≡◌, ℕ, ◌+◌, ◌<◌, ◌≤◌, Bool, true, false, cond, ◌&&◌, ◌⊎◌, List, [], ◌∷◌, length, take, drop, ◌≢◌, nat_le, nat_lt, slice_index}
-use Rattle.std.specs.List.{AllByRecursion as All}
+use Rattle.std.specs.List.{AllByRecursion}
 use Rattle.scanner.specs.Bytes.{class}
 use Rattle.scanner.specs.Pieces.{Piece, opening, closing, spelled, foreign, piece_place, piece_bytes, pieces_of}
 use Rattle.scanner.specs.declared.class.Class.TheVariants.{Blank, LineFeed, Letter, Foreign}
@@ -13,11 +13,11 @@ Part text x = take (length (piece_bytes x)) (drop (piece_place x) text) ≡ piec
 abbrev pub Lettered : Piece → Type 0
 Lettered (opening p) = Unit {0}
 Lettered (closing p) = Unit {0}
-Lettered (spelled w p) = (0 < length w) × All (λ b. class b ≡ Letter) w
+Lettered (spelled w p) = (0 < length w) × AllByRecursion (λ b. class b ≡ Letter) w
 Lettered (foreign b p) = class b ≡ Foreign
 
 abbrev pub PartsOfTheText : List ℕ → Type 0
-PartsOfTheText text = All (λ x. Part text x × Lettered x) (pieces_of text)
+PartsOfTheText text = AllByRecursion (λ x. Part text x × Lettered x) (pieces_of text)
 
 abbrev pub is_word : Piece → Bool
 is_word (opening p) = false

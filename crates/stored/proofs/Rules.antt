@@ -3,7 +3,7 @@ use Rattle.std.proofs.Common.{◌≡◌, ℕ, ◌+◌, ◌-◌, ◌*◌, ◌/◌
 use Rattle.std.proofs.ByRecursion.{All-from_get_or}
 use Rattle.std.proofs.lemmas.List.{length-drop, take_at, take_rest}
 use Rattle.std.proofs.lemmas.Bool.{cond-true, cond-false, le-ltb, le-leb, eq-eqb, eqb-true, leb-true, ltb-false, and_from, and_parts}
-use Rattle.std.specs.List.{AllByRecursion as All}
+use Rattle.std.specs.List.{AllByRecursion}
 use Rattle.stored.specs.declared.rule.LoadFault.{LoadFault}
 use Rattle.stored.specs.declared.rule.LoadFault.TheVariants.{Short, Mark, Version, TooManyWords, Length}
 use Rattle.stored.specs.declared.rule.RuleHeader.{RuleHeader}
@@ -81,7 +81,7 @@ two_bytes n low high a b e q =
     let q1 : n / 256 ≡ high = omega arith in
     cons (omega arith) (cons (ap (λ (m : ℕ). m % 256) q1 ∙ omega arith) q)
 
-pub stored_again : (bs : List ℕ) (h : RuleHeader) → All (λ b. b < 256) bs → Good bs h → stored (rule_of h (body bs)) ≡ bs
+pub stored_again : (bs : List ℕ) (h : RuleHeader) → AllByRecursion (λ b. b < 256) bs → Good bs h → stored (rule_of h (body bs)) ≡ bs
 stored_again [] h b g = absurd (omega arith)
 stored_again (x0 ∷ []) h b g = absurd (omega arith)
 stored_again (x0 ∷ x1 ∷ []) h b g = absurd (omega arith)
@@ -109,7 +109,7 @@ half_again n h = omega arith
 abbrev titled : ℕ → ℕ → ℕ → RuleHeader
 titled n globals entry = record { words = n; globals = globals; entry = entry }
 
-pub loaded_again : (r : Rule) → length r.words ≤ 8192 → r.globals < 65536 → r.entry < 65536 → All (λ w. w < 4294967296) r.words → loaded (stored r) ≡ Ok r
+pub loaded_again : (r : Rule) → length r.words ≤ 8192 → r.globals < 65536 → r.entry < 65536 → AllByRecursion (λ w. w < 4294967296) r.words → loaded (stored r) ≡ Ok r
 loaded_again r few g e fit =
     let n = length r.words in
     let bs = stored r in
