@@ -4,7 +4,7 @@ use Rattle.std.specs.List.{AllByRecursion}
 use Rattle.std.proofs.ByRecursion.{All-weaker}
 use Rattle.std.proofs.lemmas.Bool.{both_ways}
 use Rattle.scanner.specs.Bytes.{class}
-use Rattle.scanner.specs.Pieces.{Piece, opening, closing, spelled, foreign, piece_place, Mode, between, in_word, inComment, letters, if_letter, step, inside, pieces}
+use Rattle.scanner.specs.Pieces.{Piece, opening, closing, spelled, foreign, piece_place, Mode, between, in_word, in_comment, letters, if_letter, step, inside, pieces}
 use Rattle.scanner.specs.Laws.{is_word, piece_end, Clear, InOrder, InOrderAndApart}
 use Rattle.scanner.specs.declared.class.Class.{Class}
 use Rattle.scanner.specs.declared.class.Class.TheVariants.{Blank, LineFeed, Open, Close, Semicolon, Letter, Foreign}
@@ -34,7 +34,7 @@ module _ (b p : ℕ) (w v : List ℕ) (go : Mode → List Piece) (later : (n : M
   word_step LineFeed h = ended (go between) (past between)
   word_step Open h = ended (opening p ∷ go between) (here_behind p (opening p) refl refl, past between)
   word_step Close h = ended (closing p ∷ go between) (here_behind p (closing p) refl refl, past between)
-  word_step Semicolon h = ended (go inComment) (past inComment)
+  word_step Semicolon h = ended (go in_comment) (past in_comment)
   word_step Foreign h = ended (foreign b p ∷ go between) (here_behind p (foreign b p) refl refl, past between)
 
 behind_word : (p : ℕ) (bs : List ℕ) → AllByRecursion (Behind (p + length (letters bs))) (pieces in_word p bs)
@@ -64,23 +64,23 @@ module _ (b p : ℕ) (w : List ℕ) (go : Mode → List Piece) (later : (n : Mod
   order_step between LineFeed word = order between
   order_step between Open word = opens between
   order_step between Close word = closes between
-  order_step between Semicolon word = order inComment
+  order_step between Semicolon word = order in_comment
   order_step between Letter word = (word refl, order in_word)
   order_step between Foreign word = odd between
   order_step in_word Blank word = order between
   order_step in_word LineFeed word = order between
   order_step in_word Open word = opens between
   order_step in_word Close word = closes between
-  order_step in_word Semicolon word = order inComment
+  order_step in_word Semicolon word = order in_comment
   order_step in_word Letter word = order in_word
   order_step in_word Foreign word = odd between
-  order_step inComment Blank word = order inComment
-  order_step inComment LineFeed word = order between
-  order_step inComment Open word = order inComment
-  order_step inComment Close word = order inComment
-  order_step inComment Semicolon word = order inComment
-  order_step inComment Letter word = order inComment
-  order_step inComment Foreign word = odd inComment
+  order_step in_comment Blank word = order in_comment
+  order_step in_comment LineFeed word = order between
+  order_step in_comment Open word = order in_comment
+  order_step in_comment Close word = order in_comment
+  order_step in_comment Semicolon word = order in_comment
+  order_step in_comment Letter word = order in_comment
+  order_step in_comment Foreign word = odd in_comment
 
 -- a word ends where its letters end
 word_clear : (p b : ℕ) (bs : List ℕ) → class b ≡ Letter → Clear (spelled (letters (b ∷ bs)) p) (pieces in_word (p + 1) bs)

@@ -3,7 +3,7 @@ use Rattle.std.proofs.Common.{◌≡◌, ℕ, zero, suc, ◌-◌, ◌<◌, ◌�
 use Rattle.scanner.specs.Bytes.{class}
 use Rattle.scanner.specs.Gaps.{BetweenTokens}
 use Rattle.scanner.specs.Laws.{Commented}
-use Rattle.scanner.specs.Pieces.{Mode, between, in_word, inComment}
+use Rattle.scanner.specs.Pieces.{Mode, between, in_word, in_comment}
 use Rattle.scanner.specs.declared.class.Class.{Class}
 use Rattle.scanner.specs.declared.class.Class.TheVariants.{Blank, LineFeed, Open, Close, Semicolon, Letter, Foreign}
 use Rattle.scanner.proofs.Modes.{leads, stays, next, leads_in_comment}
@@ -18,7 +18,7 @@ after m (x ∷ a) = after (next m (class x)) a
 abbrev pub Ready : Mode → List ℕ → Type 0
 Ready between b = Unit {0}
 Ready in_word b = class (get_or b 0 0) ≡ Letter → ⊥
-Ready inComment b = ⊥
+Ready in_comment b = ⊥
 
 leads_in_word : (k : Class) → leads k ≡ in_word → k ≡ Letter
 leads_in_word Blank e = cc
@@ -42,7 +42,7 @@ stays_in_word Foreign e = cc
 next_in_word : (m : Mode) (k : Class) → next m k ≡ in_word → k ≡ Letter
 next_in_word between k e = leads_in_word k e
 next_in_word in_word k e = leads_in_word k e
-next_in_word inComment k e = stays_in_word k e
+next_in_word in_comment k e = stays_in_word k e
 
 -- a word that is still open ends with a letter
 last_letter : (m : Mode) (x : ℕ) (a : List ℕ) → after m (x ∷ a) ≡ in_word → class (get_or (x ∷ a) (length a) 0) ≡ Letter
@@ -69,13 +69,13 @@ comment_begins x a e none =
     let is = byte_of Semicolon x e in
     (0, omega arith, is, λ k _. none_more x a (λ f. omega arith) none k)
 
-comment_opens : (m : Mode) (x : ℕ) (a : List ℕ) → next m (class x) ≡ inComment → NoLineFeed a → ((m ≡ inComment) × NoLineFeed (x ∷ a)) ⊎ Commented (x ∷ a) (length (x ∷ a))
+comment_opens : (m : Mode) (x : ℕ) (a : List ℕ) → next m (class x) ≡ in_comment → NoLineFeed a → ((m ≡ in_comment) × NoLineFeed (x ∷ a)) ⊎ Commented (x ∷ a) (length (x ∷ a))
 comment_opens between x a e none = inr (comment_begins x a (leads_in_comment (class x) e) none)
 comment_opens in_word x a e none = inr (comment_begins x a (leads_in_comment (class x) e) none)
-comment_opens inComment x a e none = inl (refl, none_more x a (λ f. let now = ap (λ y. stays (class y)) f in grind arith) none)
+comment_opens in_comment x a e none = inl (refl, none_more x a (λ f. let now = ap (λ y. stays (class y)) f in grind arith) none)
 
 -- a comment that is still open began with a semicolon in these bytes, or was open before them
-open_comment : (m : Mode) (a : List ℕ) → after m a ≡ inComment → ((m ≡ inComment) × NoLineFeed a) ⊎ Commented a (length a)
+open_comment : (m : Mode) (a : List ℕ) → after m a ≡ in_comment → ((m ≡ in_comment) × NoLineFeed a) ⊎ Commented a (length a)
 open_comment m [] e = inl (e, λ k h _. omega arith)
 open_comment m (x ∷ a) e = ⊎_elim (λ h. comment_opens m x a h.0 h.1) (λ c. inr (commented_more x a c)) (open_comment (next m (class x)) a e)
 
@@ -85,7 +85,7 @@ ready_behind [] b in_word e t = grind arith
 ready_behind (x ∷ a) b in_word e t =
     let n : length (x ∷ a) - 1 ≡ length a = omega arith in
     t.apart (ap (λ n. class (get_or (x ∷ a) n 0)) n ∙ last_letter between x a e)
-ready_behind a b inComment e t =
+ready_behind a b in_comment e t =
     ⊎_elim (λ h. let was = h.0 in grind arith) t.quiet (open_comment between a e)
 
 pub ready : (a b : List ℕ) → BetweenTokens a b → Ready (after between a) b

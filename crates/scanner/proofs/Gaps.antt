@@ -3,7 +3,7 @@ use Rattle.std.proofs.Common.{◌≡◌, ℕ, ◌+◌, List, [], ◌∷◌, ◌+
 use Rattle.std.specs.List.{AllByRecursion}
 use Rattle.scanner.specs.Bytes.{class}
 use Rattle.scanner.specs.Gaps.{Gap, nothing, blank, line_feed, comment, Hushed, moved, at_place, GapMovesPieces}
-use Rattle.scanner.specs.Pieces.{Piece, Mode, between, in_word, inComment, if_letter, letters, step, pieces}
+use Rattle.scanner.specs.Pieces.{Piece, Mode, between, in_word, in_comment, if_letter, letters, step, pieces}
 use Rattle.scanner.specs.declared.class.Class.{Class}
 use Rattle.scanner.specs.declared.class.Class.TheVariants.{Blank, LineFeed, Open, Close, Semicolon, Letter, Foreign}
 use Rattle.scanner.proofs.Cuts.{after, Ready, ready}
@@ -48,10 +48,10 @@ pieces_ready : (m : Mode) (p : ℕ) (b : List ℕ) → Ready m b → pieces m p 
 pieces_ready between p b r = refl
 pieces_ready in_word p [] r = refl
 pieces_ready in_word p (x ∷ b) r = step_ended (class x) x p (letters (x ∷ b)) (λ m. pieces m (p + 1) b) r
-pieces_ready inComment p b r = absurd r
+pieces_ready in_comment p b r = absurd r
 
 -- a comment up to its line feed
-step_hushed : (k : Class) (x p : ℕ) (w : List ℕ) (go : Mode → List Piece) → (k ≡ LineFeed → ⊥) × (k ≡ Foreign → ⊥) → step inComment k x p w go ≡ go inComment
+step_hushed : (k : Class) (x p : ℕ) (w : List ℕ) (go : Mode → List Piece) → (k ≡ LineFeed → ⊥) × (k ≡ Foreign → ⊥) → step in_comment k x p w go ≡ go in_comment
 step_hushed LineFeed x p w go ne = absurd (ne.0 refl)
 step_hushed Foreign x p w go ne = absurd (ne.1 refl)
 step_hushed Blank x p w go ne = refl
@@ -60,7 +60,7 @@ step_hushed Close x p w go ne = refl
 step_hushed Semicolon x p w go ne = refl
 step_hushed Letter x p w go ne = refl
 
-pieces_comment : (p q : ℕ) (c r : List ℕ) → AllByRecursion Hushed c → q ≡ p + length c + 1 → pieces inComment p (c ++ (10 ∷ r)) ≡ pieces between q r
+pieces_comment : (p q : ℕ) (c r : List ℕ) → AllByRecursion Hushed c → q ≡ p + length c + 1 → pieces in_comment p (c ++ (10 ∷ r)) ≡ pieces between q r
 pieces_comment p q [] r h e = ap (λ n. pieces between n r) (omega arith)
 pieces_comment p q (x ∷ c) r h e =
     step_hushed (class x) x p (letters (x ∷ (c ++ (10 ∷ r)))) (λ m. pieces m (p + 1) (c ++ (10 ∷ r))) h.0
@@ -74,7 +74,7 @@ pieces_gap p q b (blank {g} x is gap) e =
 pieces_gap p q b (line_feed gap) e = pieces_gap (p + 1) q b gap (omega arith)
 pieces_gap p q b (comment {g} c h gap) e =
     let all = length-append c (10 ∷ g) in
-    ap (pieces inComment (p + 1)) (append_assoc c (10 ∷ g) b)
+    ap (pieces in_comment (p + 1)) (append_assoc c (10 ∷ g) b)
     ∙ pieces_comment (p + 1) (p + length c + 2) c (g ++ b) h (omega arith)
     ∙ pieces_gap (p + length c + 2) q b gap (omega arith)
 
@@ -85,7 +85,7 @@ ready_gap in_word b nothing r = r
 ready_gap in_word b (blank x is gap) r = λ e. grind arith
 ready_gap in_word b (line_feed gap) r = λ e. grind arith
 ready_gap in_word b (comment c h gap) r = λ e. grind arith
-ready_gap inComment b gap r = r
+ready_gap in_comment b gap r = r
 
 -- the letters and the pieces from some place before the gap on
 module _ {g : List ℕ} (gap : Gap g) (b : List ℕ) where

@@ -5,7 +5,7 @@ use Rattle.std.proofs.ByRecursion.{All-weaker}
 use Rattle.std.proofs.lemmas.Bool.{cases_lt}
 use Rattle.std.proofs.lemmas.Bool.Decides.{nat_tests}
 use Rattle.scanner.specs.Bytes.{class}
-use Rattle.scanner.specs.Pieces.{Piece, piece_place, Mode, between, in_word, inComment, letters, if_letter, step, pieces, pieces_of}
+use Rattle.scanner.specs.Pieces.{Piece, piece_place, Mode, between, in_word, in_comment, letters, if_letter, step, pieces, pieces_of}
 use Rattle.scanner.specs.Laws.{owners, Commented, EachByteOwned}
 use Rattle.scanner.specs.declared.class.Class.{Class}
 use Rattle.scanner.specs.declared.class.Class.TheVariants.{Blank, LineFeed, Open, Close, Semicolon, Letter, Foreign}
@@ -45,13 +45,13 @@ count_hushed Foreign = 1
 abbrev count : Mode → Class → ℕ
 count between k = count_outside k
 count in_word k = count_outside k
-count inComment k = count_hushed k
+count in_comment k = count_hushed k
 
 -- one for byte i if it belongs to the word in which the scanner stands, of which the letters w are left
 abbrev begun : Mode → ℕ → List ℕ → ℕ
 begun between i w = 0
 begun in_word i w = cond (ltb i (length w)) 1 0
-begun inComment i w = 0
+begun in_comment i w = 0
 
 none_before : (i : ℕ) (xs : List Piece) → AllByRecursion (λ x. i < piece_place x) xs → owners i xs ≡ 0
 none_before i [] h = refl
@@ -66,23 +66,23 @@ module _ (b p : ℕ) (w : List ℕ) (go : Mode → List Piece) where
   here_step between LineFeed h = omega (arith, h between)
   here_step between Open h = let e = h between in grind (arith, nat_tests)
   here_step between Close h = let e = h between in grind (arith, nat_tests)
-  here_step between Semicolon h = omega (arith, h inComment)
+  here_step between Semicolon h = omega (arith, h in_comment)
   here_step between Letter h = let e = h in_word in grind (arith, nat_tests)
   here_step between Foreign h = let e = h between in grind (arith, nat_tests)
   here_step in_word Blank h = omega (arith, h between)
   here_step in_word LineFeed h = omega (arith, h between)
   here_step in_word Open h = let e = h between in grind (arith, nat_tests)
   here_step in_word Close h = let e = h between in grind (arith, nat_tests)
-  here_step in_word Semicolon h = omega (arith, h inComment)
+  here_step in_word Semicolon h = omega (arith, h in_comment)
   here_step in_word Letter h = let e = h in_word in grind (arith, nat_tests)
   here_step in_word Foreign h = let e = h between in grind (arith, nat_tests)
-  here_step inComment Blank h = omega (arith, h inComment)
-  here_step inComment LineFeed h = omega (arith, h between)
-  here_step inComment Open h = omega (arith, h inComment)
-  here_step inComment Close h = omega (arith, h inComment)
-  here_step inComment Semicolon h = omega (arith, h inComment)
-  here_step inComment Letter h = omega (arith, h inComment)
-  here_step inComment Foreign h = let e = h inComment in grind (arith, nat_tests)
+  here_step in_comment Blank h = omega (arith, h in_comment)
+  here_step in_comment LineFeed h = omega (arith, h between)
+  here_step in_comment Open h = omega (arith, h in_comment)
+  here_step in_comment Close h = omega (arith, h in_comment)
+  here_step in_comment Semicolon h = omega (arith, h in_comment)
+  here_step in_comment Letter h = omega (arith, h in_comment)
+  here_step in_comment Foreign h = let e = h in_comment in grind (arith, nat_tests)
 
   later_step : (m : Mode) (k : Class) (i : ℕ) → owners (p + suc i) (step m k b p (if_letter k (b ∷ w)) go) + begun m (suc i) (if_letter k (b ∷ w)) ≡ owners (p + suc i) (go (next m k)) + begun (next m k) i w
   later_step between Blank i = refl
@@ -99,13 +99,13 @@ module _ (b p : ℕ) (w : List ℕ) (go : Mode → List Piece) where
   later_step in_word Semicolon i = grind (arith, nat_tests)
   later_step in_word Letter i = grind (arith, nat_tests)
   later_step in_word Foreign i = grind (arith, nat_tests)
-  later_step inComment Blank i = refl
-  later_step inComment LineFeed i = refl
-  later_step inComment Open i = refl
-  later_step inComment Close i = refl
-  later_step inComment Semicolon i = refl
-  later_step inComment Letter i = refl
-  later_step inComment Foreign i = grind (arith, nat_tests)
+  later_step in_comment Blank i = refl
+  later_step in_comment LineFeed i = refl
+  later_step in_comment Open i = refl
+  later_step in_comment Close i = refl
+  later_step in_comment Semicolon i = refl
+  later_step in_comment Letter i = refl
+  later_step in_comment Foreign i = grind (arith, nat_tests)
 
 owners_from : (m : Mode) (p : ℕ) (bs : List ℕ) (i : ℕ) → i < length bs → owners (p + i) (pieces m p bs) + begun m i (letters bs) ≡ count (after i m bs) (class (get_or bs i 0))
 owners_from m p [] i l = absurd (omega arith)
@@ -125,17 +125,17 @@ owners_are text i l =
     rw zero-add at from_0
 
 -- a scanner that stands in a comment came to a semicolon, or stood in a comment and came to no line feed
-comes : (m : Mode) (k : Class) → next m k ≡ inComment → (k ≡ Semicolon) ⊎ ((m ≡ inComment) × (k ≡ LineFeed → ⊥))
+comes : (m : Mode) (k : Class) → next m k ≡ in_comment → (k ≡ Semicolon) ⊎ ((m ≡ in_comment) × (k ≡ LineFeed → ⊥))
 comes between k e = inl (leads_in_comment k e)
 comes in_word k e = inl (leads_in_comment k e)
-comes inComment k e = inr (refl, λ line. let z : ◌≡◌ {A = ℕ} 0 1 = cc (ap stays line) in omega arith)
+comes in_comment k e = inr (refl, λ line. let z : ◌≡◌ {A = ℕ} 0 1 = cc (ap stays line) in omega arith)
 
-opens : (m : Mode) → next m Semicolon ≡ inComment
+opens : (m : Mode) → next m Semicolon ≡ in_comment
 opens between = refl
 opens in_word = refl
-opens inComment = refl
+opens in_comment = refl
 
-goes_on : (k : Class) → (k ≡ LineFeed → ⊥) → next inComment k ≡ inComment
+goes_on : (k : Class) → (k ≡ LineFeed → ⊥) → next in_comment k ≡ in_comment
 goes_on Blank other = refl
 goes_on LineFeed other = absurd (other refl)
 goes_on Open other = refl
@@ -157,7 +157,7 @@ module _ (text : List ℕ) where
         ⊎_elim (λ l. c.3 k a l line) (λ l. let same : k ≡ i = omega arith in other (ap (λ n. class (get_or text n 0)) (sym same) ∙ ap class line)) (cases_lt k i),
   )
 
-  commented : (i : ℕ) → i ≤ length text → after i between text ≡ inComment → Commented text i
+  commented : (i : ℕ) → i ≤ length text → after i between text ≡ in_comment → Commented text i
   commented zero l e = let z : ◌≡◌ {A = ℕ} 0 1 = cc in absurd (omega arith)
   commented (suc i) l e =
       let k = class (get_or text i 0) in
@@ -169,17 +169,17 @@ module _ (text : List ℕ) where
   semicolon_at : (i : ℕ) (c : Commented text i) → i ≤ c.0 → class (get_or text i 0) ≡ Semicolon
   semicolon_at i c l = let same : c.0 ≡ i = omega (arith, c.1) in ap class (subst (λ n. get_or text n 0 ≡ 59) same c.2)
 
-  in_comment : (i : ℕ) → i < length text → Commented text i → (after i between text ≡ inComment) ⊎ (class (get_or text i 0) ≡ Semicolon)
-  in_comment zero l c = inr (semicolon_at 0 c (omega arith))
-  in_comment (suc i) l c =
+  commented_or_opens : (i : ℕ) → i < length text → Commented text i → (after i between text ≡ in_comment) ⊎ (class (get_or text i 0) ≡ Semicolon)
+  commented_or_opens zero l c = inr (semicolon_at 0 c (omega arith))
+  commented_or_opens (suc i) l c =
       let m = after i between text in
       let k = class (get_or text i 0) in
       ⊎_elim
       (λ before.
       let other : k ≡ LineFeed → ⊥ = λ line. c.3 i (omega arith) (omega arith) (byte_of LineFeed (get_or text i 0) line) in
-      let on : next m k ≡ inComment =
+      let on : next m k ≡ in_comment =
       ⊎_elim (λ e. ap (λ m. next m k) e ∙ goes_on k other) (λ e. ap (next m) e ∙ opens m)
-      (in_comment i (omega arith) (c.0, omega arith, c.2, λ k a b. c.3 k a (omega arith))) in
+      (commented_or_opens i (omega arith) (c.0, omega arith, c.2, λ k a b. c.3 k a (omega arith))) in
       inl (after_more i between text (omega arith) ∙ on))
       (λ here. inr (semicolon_at (suc i) c here))
       (cases_lt c.0 (suc i))
@@ -188,7 +188,7 @@ module _ (text : List ℕ) where
 count_both : (k : Class) (n : ℕ) → count_outside k ≡ n → count_hushed k ≡ n → (m : Mode) → count m k ≡ n
 count_both k n o h between = o
 count_both k n o h in_word = o
-count_both k n o h inComment = h
+count_both k n o h in_comment = h
 
 count_hushed_none : (k : Class) → (k ≡ Foreign → ⊥) → count_hushed k ≡ 0
 count_hushed_none Blank other = refl
@@ -208,10 +208,10 @@ count_outside_one Semicolon blank line semi = absurd (semi refl)
 count_outside_one Letter blank line semi = refl
 count_outside_one Foreign blank line semi = refl
 
-count_one : (m : Mode) (k : Class) → (m ≡ inComment → ⊥) → count_outside k ≡ 1 → count m k ≡ 1
+count_one : (m : Mode) (k : Class) → (m ≡ in_comment → ⊥) → count_outside k ≡ 1 → count m k ≡ 1
 count_one between k out e = e
 count_one in_word k out e = e
-count_one inComment k out e = absurd (out refl)
+count_one in_comment k out e = absurd (out refl)
 
 pub each_byte_owned : (text : List ℕ) → EachByteOwned text
 each_byte_owned text i l =
@@ -223,5 +223,5 @@ each_byte_owned text i l =
       one = λ whole quiet. are ∙ count_one m k (λ e. quiet (commented text i (omega arith) e)) (count_outside_one k (λ e. whole (inl e)) (λ e. whole (inr e)) (λ e. quiet (commented_here text i e)));
       odd = both Foreign 1 refl refl;
       parts = ⊎_elim (both Blank 0 refl refl) (both LineFeed 0 refl refl);
-      comments = λ c other. ⊎_elim (λ e. are ∙ ap (λ m. count m k) e ∙ count_hushed_none k other) (both Semicolon 0 refl refl) (in_comment text i l c);
+      comments = λ c other. ⊎_elim (λ e. are ∙ ap (λ m. count m k) e ∙ count_hushed_none k other) (both Semicolon 0 refl refl) (commented_or_opens text i l c);
     }

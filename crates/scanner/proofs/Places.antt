@@ -4,7 +4,7 @@ use Rattle.std.specs.List.{AllByRecursion}
 use Rattle.std.proofs.ByRecursion.{All-weaker}
 use Rattle.std.proofs.lemmas.Bool.{cond_both, eqb-true}
 use Rattle.scanner.specs.Bytes.{class}
-use Rattle.scanner.specs.Pieces.{Piece, opening, closing, spelled, foreign, piece_place, Mode, between, in_word, inComment, letters, step, pieces}
+use Rattle.scanner.specs.Pieces.{Piece, opening, closing, spelled, foreign, piece_place, Mode, between, in_word, in_comment, letters, step, pieces}
 use Rattle.scanner.specs.declared.class.Class.{Class}
 use Rattle.scanner.specs.declared.class.Class.TheVariants.{Blank, LineFeed, Open, Close, Semicolon, Letter, Foreign}
 
@@ -38,23 +38,23 @@ all_step P between Blank b p w go o c l f h = h between
 all_step P between LineFeed b p w go o c l f h = h between
 all_step P between Open b p w go o c l f h = (o refl, h between)
 all_step P between Close b p w go o c l f h = (c refl, h between)
-all_step P between Semicolon b p w go o c l f h = h inComment
+all_step P between Semicolon b p w go o c l f h = h in_comment
 all_step P between Letter b p w go o c l f h = (l refl, h in_word)
 all_step P between Foreign b p w go o c l f h = (f refl, h between)
 all_step P in_word Blank b p w go o c l f h = h between
 all_step P in_word LineFeed b p w go o c l f h = h between
 all_step P in_word Open b p w go o c l f h = (o refl, h between)
 all_step P in_word Close b p w go o c l f h = (c refl, h between)
-all_step P in_word Semicolon b p w go o c l f h = h inComment
+all_step P in_word Semicolon b p w go o c l f h = h in_comment
 all_step P in_word Letter b p w go o c l f h = h in_word
 all_step P in_word Foreign b p w go o c l f h = (f refl, h between)
-all_step P inComment Blank b p w go o c l f h = h inComment
-all_step P inComment LineFeed b p w go o c l f h = h between
-all_step P inComment Open b p w go o c l f h = h inComment
-all_step P inComment Close b p w go o c l f h = h inComment
-all_step P inComment Semicolon b p w go o c l f h = h inComment
-all_step P inComment Letter b p w go o c l f h = h inComment
-all_step P inComment Foreign b p w go o c l f h = (f refl, h inComment)
+all_step P in_comment Blank b p w go o c l f h = h in_comment
+all_step P in_comment LineFeed b p w go o c l f h = h between
+all_step P in_comment Open b p w go o c l f h = h in_comment
+all_step P in_comment Close b p w go o c l f h = h in_comment
+all_step P in_comment Semicolon b p w go o c l f h = h in_comment
+all_step P in_comment Letter b p w go o c l f h = h in_comment
+all_step P in_comment Foreign b p w go o c l f h = (f refl, h in_comment)
 
 pub places_from : (m : Mode) (p : ℕ) (bs : List ℕ) → AllByRecursion (λ x. p ≤ piece_place x) (pieces m p bs)
 places_from m p [] = tt

@@ -3,7 +3,7 @@ use Rattle.std.proofs.Common.{◌≡◌, ℕ, ◌+◌, ◌<◌, ◌≤◌, List,
 use Rattle.std.proofs.lemmas.Bool.Decides.{nat_tests}
 use Rattle.scanner.specs.Bytes.{class}
 use Rattle.scanner.specs.Gaps.{moved, at_place}
-use Rattle.scanner.specs.Pieces.{Piece, opening, closing, spelled, foreign, Mode, between, in_word, inComment, letters, step, pieces}
+use Rattle.scanner.specs.Pieces.{Piece, opening, closing, spelled, foreign, Mode, between, in_word, in_comment, letters, step, pieces}
 use Rattle.scanner.specs.declared.class.Class.{Class}
 use Rattle.scanner.specs.declared.class.Class.TheVariants.{Blank, LineFeed, Open, Close, Semicolon, Letter, Foreign}
 use Rattle.scanner.proofs.Modes.{next}
@@ -31,13 +31,13 @@ module _ (f : ℕ → ℕ) (x p q : ℕ) (v w : List ℕ) (go go' : Mode → Lis
   step_moves in_word Semicolon s h = h
   step_moves in_word Letter s h = h
   step_moves in_word Foreign s h = λ i. foreign x (e i) ∷ h i
-  step_moves inComment Blank s h = h
-  step_moves inComment LineFeed s h = h
-  step_moves inComment Open s h = h
-  step_moves inComment Close s h = h
-  step_moves inComment Semicolon s h = h
-  step_moves inComment Letter s h = h
-  step_moves inComment Foreign s h = λ i. foreign x (e i) ∷ h i
+  step_moves in_comment Blank s h = h
+  step_moves in_comment LineFeed s h = h
+  step_moves in_comment Open s h = h
+  step_moves in_comment Close s h = h
+  step_moves in_comment Semicolon s h = h
+  step_moves in_comment Letter s h = h
+  step_moves in_comment Foreign s h = λ i. foreign x (e i) ∷ h i
 
 -- what stands from n on moves by k
 pub pieces_shift : (n k : ℕ) (m : Mode) (p q : ℕ) (b : List ℕ) → n ≤ q → p ≡ q + k → pieces m p b ≡ map (at_place (moved n k)) (pieces m q b)

@@ -2,7 +2,7 @@
 use Rattle.std.proofs.Common.{◌≡◌, ℕ, ◌+◌, ◌-◌, ◌<◌, ◌≤◌, List, [], ◌∷◌, ◌++◌, map, length, get_or, take, drop, sym, refl, ap, ◌∙◌, append_assoc, append-nil, arith, length-drop, get_or-drop}
 use Rattle.std.proofs.lemmas.List.{at_drop_more, at_drop_all, take_more}
 use Rattle.scanner.specs.Bytes.{class}
-use Rattle.scanner.specs.Pieces.{Piece, spelled, Mode, between, in_word, inComment, if_letter, letters, step, pieces}
+use Rattle.scanner.specs.Pieces.{Piece, spelled, Mode, between, in_word, in_comment, if_letter, letters, step, pieces}
 use Rattle.scanner.specs.Words.{Item, item, word_item}
 use Rattle.scanner.specs.declared.class.Class.{Class}
 use Rattle.scanner.specs.declared.class.Class.TheVariants.{Blank, LineFeed, Open, Close, Semicolon, Letter, Foreign}
@@ -17,7 +17,7 @@ begun text from i = spelled (take (i - from) (drop from text) ++ letters (drop i
 abbrev pub Owed : State → List ℕ → ℕ → List Piece → Type 0
 Owed Between text i all = all ≡ pieces between i (drop i text)
 Owed (InWord from) text i all = (from ≤ i) × (i ≤ length text) × (all ≡ begun text from i)
-Owed InComment text i all = all ≡ pieces inComment i (drop i text)
+Owed InComment text i all = all ≡ pieces in_comment i (drop i text)
 
 module _ (text : List ℕ) (i : ℕ) (h : i < length text) (k : Class) (e : class (get_or text i 0) ≡ k) where
   pub ran : letters (drop i text) ≡ if_letter k (get_or text i 0 ∷ letters (drop (i + 1) text))
@@ -83,10 +83,10 @@ ends_all text from i below full =
     λ j. spelled (whole j) from ∷ turn j
 
 -- a comment goes on up to a line feed; a byte that stands in no text is told of
-pub hushes : (text : List ℕ) (i : ℕ) → i < length text → (k : Class) → class (get_or text i 0) ≡ k → (k ≡ LineFeed → ⊥) → (k ≡ Foreign → ⊥) → pieces inComment i (drop i text) ≡ pieces inComment (i + 1) (drop (i + 1) text)
-hushes text i h k e line odd = look text i h k e inComment ∙ quiet k line odd
+pub hushes : (text : List ℕ) (i : ℕ) → i < length text → (k : Class) → class (get_or text i 0) ≡ k → (k ≡ LineFeed → ⊥) → (k ≡ Foreign → ⊥) → pieces in_comment i (drop i text) ≡ pieces in_comment (i + 1) (drop (i + 1) text)
+hushes text i h k e line odd = look text i h k e in_comment ∙ quiet k line odd
   where
-    quiet : (k : Class) → (k ≡ LineFeed → ⊥) → (k ≡ Foreign → ⊥) → step inComment k (get_or text i 0) i (letters (drop i text)) (λ n. pieces n (i + 1) (drop (i + 1) text)) ≡ pieces inComment (i + 1) (drop (i + 1) text)
+    quiet : (k : Class) → (k ≡ LineFeed → ⊥) → (k ≡ Foreign → ⊥) → step in_comment k (get_or text i 0) i (letters (drop i text)) (λ n. pieces n (i + 1) (drop (i + 1) text)) ≡ pieces in_comment (i + 1) (drop (i + 1) text)
     quiet LineFeed line odd = absurd (line refl)
     quiet Foreign line odd = absurd (odd refl)
     quiet Letter line odd = refl
@@ -99,7 +99,7 @@ hushes text i h k e line odd = look text i h k e inComment ∙ quiet k line odd
 pub nothing : (s : State) (text : List ℕ) (i : ℕ) (all : List Piece) → length text ≤ i → ((from : ℕ) → s ≡ InWord from → ⊥) → Owed s text i all → all ≡ []
 nothing Between text i all full out owed = owed ∙ at_drop_all (pieces between i) text i full
 nothing (InWord from) text i all full out owed = absurd (out from refl)
-nothing InComment text i all full out owed = owed ∙ at_drop_all (pieces inComment i) text i full
+nothing InComment text i all full out owed = owed ∙ at_drop_all (pieces in_comment i) text i full
 
 -- a word has ended, and a call gave what it is
 pub ended : (text : List ℕ) (from i : ℕ) (l : Item) → l ≡ word_item (take (i - from) (drop from text)) from → from ≤ i → i < length text → (k : Class) → class (get_or text i 0) ≡ k → (k ≡ Letter → ⊥) → map item (begun text from i) ≡ l ∷ map item (pieces between i (drop i text))

@@ -26,7 +26,7 @@ piece_bytes (foreign b p) = b ∷ []
 
 -- where the scanner stands
 pub data Mode : Type 0 where
-  between in_word inComment : Mode
+  between in_word in_comment : Mode
 
 -- the letters at the front: the word that begins there
 abbrev pub if_letter : Class → List ℕ → List ℕ
@@ -49,7 +49,7 @@ outside Blank b p w go = go between
 outside LineFeed b p w go = go between
 outside Open b p w go = opening p ∷ go between
 outside Close b p w go = closing p ∷ go between
-outside Semicolon b p w go = go inComment
+outside Semicolon b p w go = go in_comment
 outside Letter b p w go = spelled w p ∷ go in_word
 outside Foreign b p w go = foreign b p ∷ go between
 
@@ -64,17 +64,17 @@ inside Foreign b p w go = outside Foreign b p w go
 
 abbrev pub hushed : Class → ℕ → ℕ → (Mode → List Piece) → List Piece
 hushed LineFeed b p go = go between
-hushed Foreign b p go = foreign b p ∷ go inComment
-hushed Blank b p go = go inComment
-hushed Open b p go = go inComment
-hushed Close b p go = go inComment
-hushed Semicolon b p go = go inComment
-hushed Letter b p go = go inComment
+hushed Foreign b p go = foreign b p ∷ go in_comment
+hushed Blank b p go = go in_comment
+hushed Open b p go = go in_comment
+hushed Close b p go = go in_comment
+hushed Semicolon b p go = go in_comment
+hushed Letter b p go = go in_comment
 
 abbrev pub step : Mode → Class → ℕ → ℕ → List ℕ → (Mode → List Piece) → List Piece
 step between k b p w go = outside k b p w go
 step in_word k b p w go = inside k b p w go
-step inComment k b p w go = hushed k b p go
+step in_comment k b p w go = hushed k b p go
 
 -- the pieces of bytes of which the first stands at p
 abbrev pub pieces : Mode → ℕ → List ℕ → List Piece

@@ -4,14 +4,14 @@ use Rattle.scanner.specs.declared.fault.ScanFault.{ScanFault}
 use Rattle.scanner.specs.declared.scanner.Scanner.{Scanner}
 use Rattle.scanner.specs.declared.token.Token.{Token}
 use Rattle.scanner.specs.declared.token.Token.TheVariants as token
-use Rattle.scanner.specs.Pieces.{Mode, between, inComment, pieces, pieces_of}
+use Rattle.scanner.specs.Pieces.{Mode, between, in_comment, pieces, pieces_of}
 use Rattle.scanner.specs.Words.{Lexeme, opens, closes, name, number, Item, item}
 
 abbrev pub items_of : List ℕ → List Item
 items_of text = map item (pieces_of text)
 
 abbrev pub mode : Bool → Mode
-mode true = inComment
+mode true = in_comment
 mode false = between
 
 abbrev pub left : Scanner → List Item

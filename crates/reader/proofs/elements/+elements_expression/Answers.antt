@@ -12,6 +12,6 @@ elements-and-found-requires t c =
     let one = ap (λ s. s.count) found in
     let rest = ap (λ s. s.count) (both_first next) in
     let begins : ahead c.loop-token.scanner ≡ lexeme c.in-Some.token ∷ ahead c.token.new.self = c.in-Some.ensures in
-    let ahead-is = ap (λ ls. count (grow ls).here) begins in
+    let ahead_is = ap (λ ls. count (grow ls).here) begins in
     let sum = ap (λ s. s.count) c.loop-token.invariant.sum in
     omega (arith, few start, c.requires.small)

@@ -3,7 +3,7 @@ use Rattle.std.proofs.lemmas.List.{at_drop_all}
 use Rattle.scanner.specs.declared.class.Class.TheVariants.{Letter, LineFeed, Blank, Foreign}
 use Rattle.scanner.specs.declared.scanner.Scanner.{Scanner}
 use Rattle.scanner.specs.declared.scanner.State.{State}
-use Rattle.scanner.specs.Pieces.{pieces, between, inComment}
+use Rattle.scanner.specs.Pieces.{pieces, between, in_comment}
 use Rattle.scanner.specs.Scans.{mode}
 use Rattle.scanner.specs.Words.{item}
 use Rattle.scanner.proofs.Steps.{Owed, longer, starts, ended, ended_all, look, hushes, nothing}
@@ -26,7 +26,7 @@ loop-here-init c = (
 pub returns-in-InComment-Foreign : goal.returns-in-InComment-Foreign
 returns-in-InComment-Foreign c =
     rw c.loop-here.invariant.0
-    (ap (map item) (at c.args.self.now _ c.in-InComment-Foreign.is-0 c.loop-here.invariant.1 ∙ look _ _ c.loop-here-test.true _ (sym c.in-InComment-Foreign.ensures) inComment))
+    (ap (map item) (at c.args.self.now _ c.in-InComment-Foreign.is-0 c.loop-here.invariant.1 ∙ look _ _ c.loop-here-test.true _ (sym c.in-InComment-Foreign.ensures) in_comment))
 
 pub returns-in-InWord-default : goal.returns-in-InWord-default
 returns-in-InWord-default c =
@@ -56,7 +56,7 @@ loop-here-preserved c =
     let inv = c.loop-here.invariant.1 in (
       c.loop-here.invariant.0,
       elim c.match-state.branch [
-        | in-InComment-LineFeed w ↦ rw w.state-is (at me _ w.in-InComment-LineFeed.is-0 inv ∙ look _ _ lt _ (sym w.in-InComment-LineFeed.ensures) inComment)
+        | in-InComment-LineFeed w ↦ rw w.state-is (at me _ w.in-InComment-LineFeed.is-0 inv ∙ look _ _ lt _ (sym w.in-InComment-LineFeed.ensures) in_comment)
         | in-InComment-default w ↦
             let line : c.class_of.result ≡ LineFeed → ⊥ = search rules in
             let odd : c.class_of.result ≡ Foreign → ⊥ = search rules in
