@@ -15,9 +15,9 @@ pub struct Stack<'a, T> {
 }
 
 // No cell is free for one more entry.
-#[derive(Clone, Copy)]
+#[derive(Clone, Copy, Debug, PartialEq, Eq)]
 pub struct Full;
 
 // No entry stands at that place.
-#[derive(Clone, Copy)]
+#[derive(Clone, Copy, Debug, PartialEq, Eq)]
 pub struct NoEntry;

@@ -25,6 +25,7 @@ impl<'a, T: Copy> Stack<'a, T> {
         ensures held { held self.new ≡ (if is_ok result then x ∷ held self.old else held self.old) }
         ensures lent { lent self.new ≡ lent self.old }
     {
+        // By index: the contract of `get_mut` says nothing of what the cells end as.
         if self.depth >= self.cells.len() {
             return Err(Full);
         }
@@ -41,10 +42,7 @@ impl<'a, T: Copy> Stack<'a, T> {
         ensures held { held self.new ≡ rest (held self.old) }
         ensures lent { lent self.new ≡ lent self.old }
     {
-        if self.depth == 0 {
-            return None;
-        }
-        self.depth -= 1;
+        self.depth = self.depth.checked_sub(1)?;
         Some(self.cells[self.depth])
     }
 
@@ -54,6 +52,7 @@ impl<'a, T: Copy> Stack<'a, T> {
         ensures depth { depth self.new ≡ depth self.old }
         ensures lent { lent self.new ≡ lent self.old }
     {
+        // By index, as in `push`: of a write through `get_mut` nothing is known.
         if i >= self.depth {
             return Err(NoEntry);
         }
@@ -69,8 +68,7 @@ impl<'a, T: Copy> Stack<'a, T> {
         ensures lent { lent self.new ≡ lent self.old }
     {
         self.depth = 0;
-        for i in 0..self.cells.len() {
-            self.cells[i] = blank;
-        }
+        // Not `fill`, which may ask a `clone` that fails.
+        self.cells.fill_with(|| blank);
     }
 }

@@ -23,10 +23,6 @@ impl<'a, T: Copy> Stack<'a, T> {
     pub fn get(&self, i: usize) -> Option<T>
         ensures { result ≡ slice_get (entries self.now) i }
     {
-        if i >= self.depth {
-            return None;
-        }
-        let cells: &[T] = &*self.cells;
-        Some(cells[i])
+        self.cells[..self.depth].get(i).copied()
     }
 }
