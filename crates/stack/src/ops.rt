@@ -1,5 +1,5 @@
 // The calls that change a stack. Each says what the cells and the depth are afterwards, and that the lent cells are still the same.
-ghost use Rattle.std.specs.Prelude.{◌≡◌, ◌+◌, ◌-◌, [], ◌∷◌, length, replicate, is_ok, if◌then◌else◌, nat_lt, slice_set};
+ghost use Rattle.std.specs.Prelude.{◌≡◌, ◌+◌, ◌-◌, min, [], ◌∷◌, reverse, length, take, replicate, is_ok, if◌then◌else◌, nat_lt, slice_set};
 ghost use Rattle.stack.specs.Held.{cells, depth, first, held, lent, rest};
 
 use crate::{Full, NoEntry, Stack};
@@ -15,6 +15,20 @@ impl<'a, T: Copy> Stack<'a, T> {
         Stack {
             cells: lender,
             depth: 0,
+        }
+    }
+
+    // A stack over cells that hold entries already, the first `entries` of them; a number past the last cell counts as all.
+    pub fn over(lender: &'a mut [T], entries: usize) -> Stack<'a, T>
+        ensures after { cells result ≡ lender.old }
+        ensures depth { depth result ≡ min entries (length lender.old) }
+        ensures held { held result ≡ reverse (take entries lender.old) }
+        ensures lent { lent result ≡ lender.entry.ghost_name }
+    {
+        let depth = entries.min(lender.len());
+        Stack {
+            cells: lender,
+            depth,
         }
     }
 
