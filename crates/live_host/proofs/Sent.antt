@@ -1,8 +1,8 @@
 -- A record and its facts make each other.
-use Rattle.std.proofs.Common.{◌≡◌, ℕ, ◌+◌, ◌*◌, ◌<◌, ◌≤◌, List, [], ◌∷◌, map, length, get_or, drop, ℤ, Ok, sym, refl, ap, ◌∙◌, arith, w8, w32, Fits, SFits, to_z, of_z}
+use Rattle.std.proofs.Common.{◌≡◌, ℕ, ◌+◌, ◌-◌, ◌*◌, ◌<◌, ◌≤◌, List, [], ◌∷◌, map, length, get_or, take, drop, Ok, sym, refl, ap, ◌∙◌, arith, w8, w32, Fits, SFits, to_z, of_z}
 use Rattle.std.specs.List.{AllByRecursion}
 use Rattle.std.proofs.ByRecursion.{All-from_get_or, All-map, All-weaker}
-use Rattle.std.proofs.lemmas.List.{length-map}
+use Rattle.std.proofs.lemmas.List.{length-map, take_rest}
 use Rattle.std.proofs.lemmas.Int.{ints, of_z-to_z, to_z-of_z}
 use Rattle.packing.specs.Packing.{cells_of, words_bytes, words_in}
 use Rattle.packing.proofs.Cells.{length_cells}
@@ -40,8 +40,9 @@ made_again (x0 ∷ x1 ∷ x2 ∷ x3 ∷ x4 ∷ x5 ∷ tail) a l q r s v z =
     let n = length_cells tail in
     cons (sym q) (cons (sym r) (cons (sym s) (cons (omega arith) (cons (omega arith) (cons (omega arith) (body_again tail x5 (omega arith) a.1.1.1.1.1.1))))))
 
-pub read_again : (bs : List ℕ) → ((i : ℕ) → Fits w8 (get_or bs i 0)) → 6 ≤ length bs → get_or bs 0 0 ≡ 80 → get_or bs 1 0 ≡ 83 → get_or bs 2 0 ≡ 72 → version bs ≡ 1 → length bs ≡ 6 + 4 * told_count bs → record_bytes (cells_of (drop 6 bs)) ≡ bs
-read_again bs fit = made_again bs (All-from_get_or (λ b. b < 256) bs 0 (λ i _. (fit i).fits))
+-- the header is taken off
+pub read_again : (bs : List ℕ) → ((i : ℕ) → Fits w8 (get_or bs i 0)) → 6 ≤ length bs → get_or bs 0 0 ≡ 80 → get_or bs 1 0 ≡ 83 → get_or bs 2 0 ≡ 72 → version bs ≡ 1 → length bs ≡ 6 + 4 * told_count bs → record_bytes (cells_of (take (length bs - 6) (drop 6 bs))) ≡ bs
+read_again bs fit l q r s v z = rw (take_rest bs 6) (made_again bs (All-from_get_or (λ b. b < 256) bs 0 (λ i _. (fit i).fits)) l q r s v z)
 
 pub sent : Sent
 sent facts few fit =

@@ -3,7 +3,6 @@ use Rattle.std.specs.Prelude.{◌≡◌, ℕ, ◌+◌, ◌*◌, ◌≤◌, Bool,
 use Rattle.std.specs.Int.{w32}
 use Rattle.std.proofs.Common.{of_z}
 use Rattle.std.specs.List.{AllByRecursion}
-use Rattle.runtime.specs.First.{first}
 use Rattle.packing.specs.Packing.{cells_of, words_bytes}
 use Rattle.live_host.specs.declared.record.PushRecord.{PushRecord}
 use Rattle.live_host.specs.declared.record.RecordFault.{RecordFault}

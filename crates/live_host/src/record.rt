@@ -77,7 +77,7 @@ impl<'a> PushRecord<'a> {
     ghost use Rattle.live_host.specs.Records.{body, facts_of, read, record_bytes, Sent};
 
     // Takes the header apart; the facts stay where they are.
-    #[tactic(auto, using(crate::proofs::Sent::sent))]
+    #[tactic(auto, using(crate::proofs::Sent::sent, crate::proofs::Sent::read_again))]
     pub fn read(bytes: &'a [u8]) -> Result<PushRecord<'a>, RecordFault>
         ensures answer { read result ≡ body bytes.now }
         ensures again { IfOk result (λ p. record_bytes (facts_of p) ≡ bytes.now) }
