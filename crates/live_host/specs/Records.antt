@@ -1,9 +1,8 @@
 -- What a push record says, by the list of its bytes.
-use Rattle.std.specs.Prelude.{◌≡◌, ℕ, ◌+◌, ◌*◌, ◌≤◌, Bool, cond, ◌&&◌, List, [], ◌∷◌, map, length, drop, ℤ, Ok, Err, Result, FitsSigned, ◌==◌, nat_lt, slice_index}
+use Rattle.std.specs.Prelude.{◌≡◌, ℕ, ◌+◌, ◌*◌, ◌≤◌, Bool, cond, ◌&&◌, List, [], ◌∷◌, map, length, drop, ℤ, Ok, Err, Result, FitsSigned, ◌==◌, codes, nat_lt, slice_index}
 use Rattle.std.specs.Int.{w32}
 use Rattle.std.proofs.Common.{of_z}
 use Rattle.std.specs.List.{AllByRecursion}
-use Rattle.runtime.specs.First.{first}
 use Rattle.packing.specs.Packing.{cells_of, words_bytes}
 use Rattle.live_host.specs.declared.record.PushRecord.{PushRecord}
 use Rattle.live_host.specs.declared.record.RecordFault.{RecordFault}
@@ -15,6 +14,14 @@ number_of Mark = 11
 number_of Version = 12
 number_of TooManyFacts = 13
 number_of Length = 13
+
+-- what the fault means, for who reads it
+abbrev pub words_of : RecordFault → List ℕ
+words_of Short = codes "it is shorter than the header of 6 bytes"
+words_of Mark = codes "it does not begin with PSH"
+words_of Version = codes "its version is not 1"
+words_of TooManyFacts = codes "it says that it has over 64 facts"
+words_of Length = codes "it is not as long as its fact count says"
 
 -- the bytes P, S, H
 abbrev pub marked : List ℕ → Bool
@@ -40,7 +47,7 @@ record_bytes facts = 80 ∷ 83 ∷ 72 ∷ 1 ∷ 0 ∷ length facts ∷ words_byt
 
 -- the facts of a record that was read
 abbrev pub facts_of : PushRecord → List ℤ
-facts_of r = first 64 (cells_of r.numbers.now)
+facts_of r = cells_of r.numbers.now
 
 -- a refused record has no facts
 abbrev pub facts_or_none : Result (List ℕ) RecordFault → List ℤ

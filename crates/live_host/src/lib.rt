@@ -2,6 +2,4 @@
 #![tactic(auto)]
 
 pub mod live;
-mod live_calls;
 pub mod record;
-mod record_calls;

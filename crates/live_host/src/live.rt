@@ -1,10 +1,74 @@
 // The host of a real push.
+ghost use Rattle.std.specs.Prelude.{◌≡◌, length, take, drop};
+ghost use Rattle.live_host.specs.Live.{facts_of, place_of, report_of, spare_of};
+ghost use Rattle.live_host.specs.Records.{facts_in};
+
 use crate::record::PushRecord;
+use runtime::host::{Facts, Full, PushHost};
 
 // Facts from a push record, the report in the caller's buffer: its first `written` bytes, all of it where that says more.
 #[derive(Drop)]
 pub struct LiveHost<'a> {
     pub(crate) source: PushRecord<'a>,
+    // A buffer and a length beside it, since the report's buffer is lent.
     pub(crate) buffer: &'a mut [u8],
     pub(crate) written: usize,
+}
+
+impl<'a> LiveHost<'a> {
+    // Over a refused record the host has no facts. The buffer may already hold a report, of `written` bytes.
+    pub fn new(push: &'a [u8], buffer: &'a mut [u8], written: usize) -> LiveHost<'a>
+        ensures facts { facts_of result ≡ facts_in push.now }
+        ensures report { report_of result ≡ take written buffer.old }
+        ensures spare { spare_of result ≡ drop written buffer.old }
+        ensures lent { (result.buffer.now ≡ buffer.old) × (place_of result ≡ buffer.entry.ghost_name) }
+    {
+        LiveHost {
+            source: PushRecord::read(push).unwrap_or(PushRecord::none()),
+            buffer,
+            written,
+        }
+    }
+
+    // How long the report is.
+    pub fn report_len(&self) -> usize
+        ensures { result ≡ length (report_of self.now) }
+    {
+        self.written.min(self.buffer.len())
+    }
+}
+
+impl Facts for LiveHost<'_> {
+    ghost facts = { facts_of };
+
+    fn count(&self) -> usize {
+        self.source.count()
+    }
+
+    fn fact(&self, k: usize) -> Option<i32> {
+        self.source.fact(k)
+    }
+}
+
+impl PushHost for LiveHost<'_> {
+    ghost report = { report_of };
+
+    ghost spare = { spare_of };
+
+    ghost place = { place_of };
+
+    fn space(&self) -> usize {
+        self.buffer.len().saturating_sub(self.written)
+    }
+
+    #[tactic(auto, using(runtime::proofs::Spares::drop_more_set))]
+    fn put(&mut self, b: u8) -> Result<(), Full> {
+        if self.written >= self.buffer.len() {
+            return Err(Full);
+        }
+        // By an index: once a loan by `get_mut` is over, a proof knows a slice's length alone.
+        self.buffer[self.written] = b;
+        self.written += 1;
+        Ok(())
+    }
 }

@@ -1,5 +1,5 @@
 // The host that a rehearsal carries in itself.
 #![tactic(auto)]
 
-mod calls;
+mod filled;
 pub mod rehearsal;
