@@ -1,32 +1,32 @@
 // The host of a real push.
 ghost use Rattle.std.specs.Prelude.{◌≡◌, length, take, drop};
+ghost use Rattle.stack.specs.Held.{cells};
 ghost use Rattle.live_host.specs.Live.{facts_of, place_of, report_of, spare_of};
 ghost use Rattle.live_host.specs.Records.{facts_in};
 
 use crate::record::PushRecord;
 use runtime::host::{Facts, Full, PushHost};
+use stack::Stack;
 
-// Facts from a push record, the report in the caller's buffer: its first `written` bytes, all of it where that says more.
+// Facts from a push record, the report in the caller's buffer: byte upon byte, the last one on top.
 #[derive(Drop)]
 pub struct LiveHost<'a> {
     pub(crate) source: PushRecord<'a>,
-    // A buffer and a length beside it, since the report's buffer is lent.
-    pub(crate) buffer: &'a mut [u8],
-    pub(crate) written: usize,
+    pub(crate) report: Stack<'a, u8>,
 }
 
 impl<'a> LiveHost<'a> {
-    // Over a refused record the host has no facts. The buffer may already hold a report, of `written` bytes.
+    // Over a refused record the host has no facts. The buffer may already hold a report, of its first `written` bytes, all
+    // of it where that says more.
     pub fn new(push: &'a [u8], buffer: &'a mut [u8], written: usize) -> LiveHost<'a>
         ensures facts { facts_of result ≡ facts_in push.now }
         ensures report { report_of result ≡ take written buffer.old }
         ensures spare { spare_of result ≡ drop written buffer.old }
-        ensures lent { (result.buffer.now ≡ buffer.old) × (place_of result ≡ buffer.entry.ghost_name) }
+        ensures lent { (cells result.report ≡ buffer.old) × (place_of result ≡ buffer.entry.ghost_name) }
     {
         LiveHost {
             source: PushRecord::read(push).unwrap_or(PushRecord::none()),
-            buffer,
-            written,
+            report: Stack::over(buffer, written),
         }
     }
 
@@ -34,7 +34,7 @@ impl<'a> LiveHost<'a> {
     pub fn report_len(&self) -> usize
         ensures { result ≡ length (report_of self.now) }
     {
-        self.written.min(self.buffer.len())
+        self.report.depth()
     }
 }
 
@@ -58,17 +58,10 @@ impl PushHost for LiveHost<'_> {
     ghost place = { place_of };
 
     fn space(&self) -> usize {
-        self.buffer.len().saturating_sub(self.written)
+        self.report.room()
     }
 
-    #[tactic(auto, using(runtime::proofs::Spares::drop_more_set))]
     fn put(&mut self, b: u8) -> Result<(), Full> {
-        if self.written >= self.buffer.len() {
-            return Err(Full);
-        }
-        // By an index: once a loan by `get_mut` is over, a proof knows a slice's length alone.
-        self.buffer[self.written] = b;
-        self.written += 1;
-        Ok(())
+        self.report.push(b).map_err(|_| Full)
     }
 }
