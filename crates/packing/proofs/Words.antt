@@ -1,8 +1,7 @@
 -- Numbers in bytes: how many, which one, one that is written, and that numbers and bytes come back from each other.
-use Rattle.std.proofs.Common.{◌≡◌, ℕ, zero, suc, ◌+◌, ◌-◌, ◌*◌, ◌/◌, ◌%◌, ◌<◌, ◌≤◌, List, [], ◌∷◌, ◌++◌, length, get_or, set, Some, None, sym, refl, ap, ◌∙◌, arith}
+use Rattle.std.proofs.Common.{◌≡◌, ℕ, zero, suc, ◌+◌, ◌-◌, ◌*◌, ◌/◌, ◌%◌, ◌<◌, List, [], ◌∷◌, ◌++◌, length, set, sym, refl, ap, ◌∙◌, arith}
 use Rattle.std.proofs.lemmas.Nat.{shr-shr, div-add-mod'}
-use Rattle.std.proofs.lemmas.Option.{slice_get-get_or, slice_get_past}
-use Rattle.std.specs.List.{AllByRecursion, slice_get}
+use Rattle.std.specs.List.{AllByRecursion}
 use Rattle.packing.specs.Packing.{four, packed_in, word_bytes, words_in, words_bytes}
 
 pub length_words : (bs : List ℕ) → length (words_in bs) ≡ length bs / 4
@@ -11,27 +10,6 @@ length_words (a ∷ []) = refl
 length_words (a ∷ b ∷ []) = refl
 length_words (a ∷ b ∷ c ∷ []) = refl
 length_words (a ∷ b ∷ c ∷ d ∷ rest) = omega (arith, length_words rest)
-
--- the four bytes from k on
-abbrev four_from : List ℕ → ℕ → ℕ
-four_from bs k = four (get_or bs k 0) (get_or bs (suc k) 0) (get_or bs (suc (suc k)) 0) (get_or bs (suc (suc (suc k))) 0)
-
-word_from : (bs : List ℕ) (i : ℕ) → 4 * i + 4 ≤ length bs → four_from bs (4 * i) ≡ get_or (words_in bs) i 0
-word_from [] i h = absurd (omega arith)
-word_from (a ∷ []) i h = absurd (omega arith)
-word_from (a ∷ b ∷ []) i h = absurd (omega arith)
-word_from (a ∷ b ∷ c ∷ []) i h = absurd (omega arith)
-word_from (a ∷ b ∷ c ∷ d ∷ rest) zero h = refl
-word_from (a ∷ b ∷ c ∷ d ∷ rest) (suc i) h =
-    let e : 4 * suc i ≡ suc (suc (suc (suc (4 * i)))) = omega arith in
-    ap (four_from (a ∷ b ∷ c ∷ d ∷ rest)) e ∙ word_from rest i (omega arith)
-
-pub word_here : (bs : List ℕ) (i : ℕ) → 4 * i + 4 ≤ length bs → four (get_or bs (4 * i) 0) (get_or bs (4 * i + 1) 0) (get_or bs (4 * i + 2) 0) (get_or bs (4 * i + 3) 0) ≡ get_or (words_in bs) i 0
-word_here bs i h =
-    let e1 : 4 * i + 1 ≡ suc (4 * i) = omega arith in
-    let e2 : 4 * i + 2 ≡ suc (suc (4 * i)) = omega arith in
-    let e3 : 4 * i + 3 ≡ suc (suc (suc (4 * i))) = omega arith in
-    rw (e1, e2, e3) (word_from bs i h)
 
 lin : (n q1 q2 q3 r0 r1 r2 r3 : ℕ) → q1 * 256 + r0 ≡ n → q2 * 256 + r1 ≡ q1 → q3 * 256 + r2 ≡ q2 → r3 ≡ q3 → r0 + r1 * 256 + r2 * 65536 + r3 * 16777216 ≡ n
 lin n q1 q2 q3 r0 r1 r2 r3 a b c d = omega arith
@@ -83,14 +61,6 @@ bytes_again (a ∷ b ∷ c ∷ []) n e h = absurd (omega arith)
 bytes_again (a ∷ b ∷ c ∷ d ∷ rest) n e h =
     ap (λ (r : List ℕ). r ++ words_bytes (words_in rest)) (four_bytes a b c d h.0 h.1.0 h.1.1.0 h.1.1.1.0)
     ∙ ap (λ (r : List ℕ). a ∷ b ∷ c ∷ d ∷ r) (bytes_again rest (n - 1) (omega arith) h.1.1.1.1)
-
-pub none_past : (bs : List ℕ) (i : ℕ) → length bs / 4 ≤ i → None ≡ slice_get (words_in bs) i
-none_past bs i h = let e = length_words bs in sym (slice_get_past (words_in bs) i (omega arith))
-
-pub some_at : (bs : List ℕ) (i w : ℕ) → i < length bs / 4 → w ≡ four (get_or bs (4 * i) 0) (get_or bs (4 * i + 1) 0) (get_or bs (4 * i + 2) 0) (get_or bs (4 * i + 3) 0) → Some w ≡ slice_get (words_in bs) i
-some_at bs i w h e =
-    let l = length_words bs in
-    ap Some (e ∙ word_here bs i (omega arith)) ∙ sym (slice_get-get_or (words_in bs) i 0 (omega arith))
 
 abbrev put4 : List ℕ → ℕ → ℕ → ℕ → ℕ → ℕ → List ℕ
 put4 bs k a b c d = set (set (set (set bs k a) (suc k) b) (suc (suc k)) c) (suc (suc (suc k))) d
