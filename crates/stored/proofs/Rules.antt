@@ -1,16 +1,13 @@
 -- A stored rule loads as itself, and what loads is stored as the same bytes.
-use Rattle.std.proofs.Common.{◌≡◌, ℕ, ◌+◌, ◌-◌, ◌*◌, ◌/◌, ◌%◌, ◌<◌, ◌≤◌, cond, eqb, ltb, leb, List, [], ◌∷◌, ◌++◌, length, get_or, take, drop, Ok, Err, Result, sym, ap, ◌∙◌, arith, w8, Fits}
+use Rattle.std.proofs.Common.{◌≡◌, ℕ, ◌+◌, ◌-◌, ◌*◌, ◌/◌, ◌%◌, ◌<◌, ◌≤◌, List, [], ◌∷◌, ◌++◌, length, get_or, take, drop, Ok, sym, ap, ◌∙◌, arith, w8, Fits}
 use Rattle.std.proofs.ByRecursion.{All-from_get_or}
 use Rattle.std.proofs.lemmas.List.{drop-drop, length-drop, take_at}
 use borrow.Rule.Slice.PartMut.{put_mid}
 use Rattle.std.proofs.lemmas.Bool.Decides.{nat_tests}
-use Rattle.std.proofs.lemmas.Bool.{cond-true, cond-false, le-ltb, le-leb, eq-eqb}
 use Rattle.std.specs.List.{AllByRecursion}
-use Rattle.stored.specs.declared.rule.LoadFault.{LoadFault}
-use Rattle.stored.specs.declared.rule.LoadFault.TheVariants.{Short, TooManyWords, Length}
 use Rattle.stored.specs.declared.rule.RuleHeader.{RuleHeader}
 use Rattle.packing.specs.Packing.{words_bytes, words_in}
-use Rattle.stored.specs.Stored.{half_at, counted, counts_in, header_in, Rule, rule_of, header_bytes, stored, body, with_words, loaded, heading}
+use Rattle.stored.specs.Stored.{half_at, header_in, Rule, rule_of, header_bytes, stored, body, loaded, heading}
 use Rattle.packing.proofs.Words.{length_words, length_bytes, bytes_again}
 
 -- what a good header says of the bytes
@@ -25,9 +22,6 @@ pub record Good (bs : List ℕ) (h : RuleHeader) : Type 0 where
   pub words_is : half_at (drop 3 bs) 2 ≡ h.words
   pub globals_is : half_at (drop 3 bs) 4 ≡ h.globals
   pub entry_is : half_at (drop 3 bs) 6 ≡ h.entry
-
-abbrev sized : List ℕ → Result RuleHeader LoadFault
-sized rest = cond (eqb (length rest) (8 + 4 * half_at rest 2)) (Ok (counted rest)) (Err Length)
 
 pub good : (bs : List ℕ) (h : RuleHeader) → header_in bs ≡ Ok h → Good bs h
 good bs h e = grind (arith, nat_tests, length-drop)
@@ -63,31 +57,10 @@ stored_again (x0 ∷ x1 ∷ x2 ∷ x3 ∷ x4 ∷ x5 ∷ x6 ∷ x7 ∷ x8 ∷ x9 
     (two_bytes h.entry x9 x10 b.1.1.1.1.1.1.1.1.1.0 b.1.1.1.1.1.1.1.1.1.1.0 (sym g.entry_is)
     (bytes_again tail h.words (omega arith) b.1.1.1.1.1.1.1.1.1.1.1))))))))
 
-half_again : (n : ℕ) → n < 65536 → n % 256 + n / 256 % 256 * 256 ≡ n
-half_again n h = omega arith
-
-abbrev titled : ℕ → ℕ → ℕ → RuleHeader
-titled n globals entry = record { words = n; globals = globals; entry = entry }
-
 pub loaded_again : (r : Rule) → length r.words ≤ 8192 → r.globals < 65536 → r.entry < 65536 → words_in (words_bytes r.words) ≡ r.words → loaded (stored r) ≡ Ok r
-loaded_again r few g e same_words =
-    let n = length r.words in
-    let bs = stored r in
-    let rest = drop 3 bs in
+loaded_again r few g e same =
     let size = length_bytes r.words in
-    let words : half_at rest 2 ≡ n = half_again n (omega arith) in
-    let globals = half_again r.globals g in
-    let entry = half_again r.entry e in
-    let header : header_in bs ≡ Ok (counted rest) =
-    cond-false (ltb (length bs) 11) (Err Short) (counts_in rest) (le-ltb (length bs) 11 (omega arith))
-    ∙ cond-true (leb (half_at rest 2) 8192) (sized rest) (Err TooManyWords) (le-leb (half_at rest 2) 8192 (omega arith))
-    ∙ cond-true (eqb (length rest) (8 + 4 * half_at rest 2)) (Ok (counted rest)) (Err Length) (eq-eqb _ _ (omega arith)) in
-    let same : counted rest ≡ titled n r.globals r.entry =
-    ap (λ (x : ℕ). titled x (half_at rest 4) (half_at rest 6)) words
-    ∙ ap (λ (x : ℕ). titled n x (half_at rest 6)) globals
-    ∙ ap (titled n r.globals) entry in
-    ap (λ (x : Result RuleHeader LoadFault). with_words x (body bs)) (header ∙ ap Ok same)
-    ∙ ap (λ (ws : List ℕ). Ok (rule_of (titled n r.globals r.entry) ws)) same_words
+    grind (arith, nat_tests)
 
 pub length_body : (bs : List ℕ) (h : RuleHeader) → Good bs h → length (body bs) ≡ h.words
 length_body bs h g = omega (arith, length_words (drop 11 bs), length-drop 11 bs)
