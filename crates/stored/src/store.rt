@@ -9,6 +9,7 @@ use crate::rule::{BorrowedRule, HEADER_BYTES, MOST_WORDS, StoreFault, VERSION, W
 fn header(rule: &BorrowedRule<'_>) -> Result<[u8; HEADER_BYTES], StoreFault>
     ensures { result ≡ heading rule.now }
 {
+    // The limit on words lies below what two bytes can say, so no conversion finds it.
     if rule.words.len() > MOST_WORDS {
         return Err(StoreFault::TooManyWords);
     }
