@@ -3,7 +3,7 @@ use crate::line::Line;
 use crate::number::{hex_bytes, hex_word, room, size};
 use std::alloc::{AllocError, Global};
 use stored::load::load;
-use stored::rule::RuleHeader;
+use stored::rule::{BorrowedRule, RuleHeader};
 use stored::store::store;
 
 fn tell_rule(header: RuleHeader, words: &[u32], line: &mut Line) {
@@ -71,7 +71,12 @@ pub(crate) fn store_case(
         return Ok(false);
     };
     let mut bytes = vec![in heap; 0u8; space]?;
-    match store(&words, globals, entry, &mut bytes) {
+    let rule = BorrowedRule {
+        words: &words,
+        globals,
+        entry,
+    };
+    match store(&rule, &mut bytes) {
         Ok(length) => {
             line.word("bytes");
             line.bytes(&bytes, length);

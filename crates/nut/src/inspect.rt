@@ -6,7 +6,7 @@ use live_host::record::PushRecord;
 use runtime::host::Facts;
 use std::fs;
 use stored::load::load;
-use stored::rule::{MOST_WORDS, RuleHeader};
+use stored::rule::{BorrowedRule, MOST_WORDS, RuleHeader};
 use stored::store::store;
 
 fn read_file(rt: &HostRuntime, what: &str, path: &str) -> anyhow::Result<Vec<u8>> {
@@ -70,7 +70,12 @@ fn store_again(
 ) -> anyhow::Result<()> {
     print!(rt; "storing the rule again: ")?;
     let mut out = vec![in rt.alloc(); 0u8; bytes.len()]?;
-    match store(words, header.globals, header.entry, &mut out) {
+    let rule = BorrowedRule {
+        words,
+        globals: header.globals,
+        entry: header.entry,
+    };
+    match store(&rule, &mut out) {
         Ok(length) if out.as_slice() == bytes => {
             println!(rt; "{length} bytes, equal to those that were read")?;
             Ok(())

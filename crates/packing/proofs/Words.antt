@@ -1,9 +1,8 @@
 -- Numbers in bytes: how many, which one, one that is written, and that numbers and bytes come back from each other.
-use Rattle.std.proofs.Common.{◌≡◌, ℕ, zero, suc, ◌+◌, ◌-◌, ◌*◌, ◌/◌, ◌%◌, ◌<◌, ◌≤◌, List, [], ◌∷◌, ◌++◌, length, get_or, set, Some, None, sym, refl, ap, ◌∙◌, arith}
-use Rattle.std.proofs.lemmas.Nat.{shr-shr, div-add-mod'}
-use Rattle.std.proofs.lemmas.Option.{slice_get-get_or, slice_get_past}
-use Rattle.std.specs.List.{AllByRecursion, slice_get}
-use Rattle.packing.specs.Packing.{four, packed_in, word_bytes, words_in, words_bytes}
+use Rattle.std.proofs.Common.{◌≡◌, ℕ, zero, suc, ◌+◌, ◌-◌, ◌*◌, ◌/◌, ◌%◌, ◌<◌, List, [], ◌∷◌, ◌++◌, length, get_or, set, refl, ap, ◌∙◌, arith}
+use Rattle.std.proofs.lemmas.Nat.{from_le_bytes-to_le_bytes_4, le_bytes_4}
+use Rattle.std.specs.List.{AllByRecursion}
+use Rattle.packing.specs.Packing.{four, packed_in, words_in, words_bytes}
 
 pub length_words : (bs : List ℕ) → length (words_in bs) ≡ length bs / 4
 length_words [] = refl
@@ -12,68 +11,20 @@ length_words (a ∷ b ∷ []) = refl
 length_words (a ∷ b ∷ c ∷ []) = refl
 length_words (a ∷ b ∷ c ∷ d ∷ rest) = omega (arith, length_words rest)
 
--- the four bytes from k on
-abbrev four_from : List ℕ → ℕ → ℕ
-four_from bs k = four (get_or bs k 0) (get_or bs (suc k) 0) (get_or bs (suc (suc k)) 0) (get_or bs (suc (suc (suc k))) 0)
-
-word_from : (bs : List ℕ) (i : ℕ) → 4 * i + 4 ≤ length bs → four_from bs (4 * i) ≡ get_or (words_in bs) i 0
-word_from [] i h = absurd (omega arith)
-word_from (a ∷ []) i h = absurd (omega arith)
-word_from (a ∷ b ∷ []) i h = absurd (omega arith)
-word_from (a ∷ b ∷ c ∷ []) i h = absurd (omega arith)
-word_from (a ∷ b ∷ c ∷ d ∷ rest) zero h = refl
-word_from (a ∷ b ∷ c ∷ d ∷ rest) (suc i) h =
-    let e : 4 * suc i ≡ suc (suc (suc (suc (4 * i)))) = omega arith in
-    ap (four_from (a ∷ b ∷ c ∷ d ∷ rest)) e ∙ word_from rest i (omega arith)
-
-pub word_here : (bs : List ℕ) (i : ℕ) → 4 * i + 4 ≤ length bs → four (get_or bs (4 * i) 0) (get_or bs (4 * i + 1) 0) (get_or bs (4 * i + 2) 0) (get_or bs (4 * i + 3) 0) ≡ get_or (words_in bs) i 0
-word_here bs i h =
-    let e1 : 4 * i + 1 ≡ suc (4 * i) = omega arith in
-    let e2 : 4 * i + 2 ≡ suc (suc (4 * i)) = omega arith in
-    let e3 : 4 * i + 3 ≡ suc (suc (suc (4 * i))) = omega arith in
-    rw (e1, e2, e3) (word_from bs i h)
-
-lin : (n q1 q2 q3 r0 r1 r2 r3 : ℕ) → q1 * 256 + r0 ≡ n → q2 * 256 + r1 ≡ q1 → q3 * 256 + r2 ≡ q2 → r3 ≡ q3 → r0 + r1 * 256 + r2 * 65536 + r3 * 16777216 ≡ n
-lin n q1 q2 q3 r0 r1 r2 r3 a b c d = omega arith
-
-pub digits : (n : ℕ) → n < 4294967296 → four (n % 256) (n / 256 % 256) (n / 65536 % 256) (n / 16777216 % 256) ≡ n
-digits n h =
-    lin n (n / 256) (n / 65536) (n / 16777216) (n % 256) (n / 256 % 256) (n / 65536 % 256) (n / 16777216 % 256)
-    (div-add-mod' n 256)
-    (ap (λ (q : ℕ). q * 256 + n / 256 % 256) (sym (shr-shr n 8 8)) ∙ div-add-mod' (n / 256) 256)
-    (ap (λ (q : ℕ). q * 256 + n / 65536 % 256) (sym (shr-shr n 16 8)) ∙ div-add-mod' (n / 65536) 256)
-    (omega arith)
-
 pub words_again : (ws : List ℕ) → AllByRecursion (λ w. w < 4294967296) ws → words_in (words_bytes ws) ≡ ws
 words_again [] h = refl
-words_again (w ∷ ws) h = ap (λ (x : ℕ). x ∷ words_in (words_bytes ws)) (digits w h.0) ∙ ap (λ (r : List ℕ). w ∷ r) (words_again ws h.1)
+words_again (w ∷ ws) h = ap (λ (x : ℕ). x ∷ words_in (words_bytes ws)) (from_le_bytes-to_le_bytes_4 w h.0) ∙ ap (λ (r : List ℕ). w ∷ r) (words_again ws h.1)
 
 pub length_bytes : (ws : List ℕ) → length (words_bytes ws) ≡ 4 * length ws
 length_bytes [] = refl
 length_bytes (w ∷ ws) = omega (arith, length_bytes ws)
 
-low : (x y : ℕ) → x < 256 → (x + y * 256) % 256 ≡ x
-low x y h = omega arith
-
-high : (x y : ℕ) → x < 256 → (x + y * 256) / 256 ≡ y
-high x y h = omega arith
-
--- the bytes of a number of four bytes
-four_bytes : (a b c d : ℕ) → a < 256 → b < 256 → c < 256 → d < 256 → word_bytes (four a b c d) ≡ a ∷ b ∷ c ∷ d ∷ []
-four_bytes a b c d ha hb hc hd =
-    let n = four a b c d in
-    let e : n ≡ a + (b + (c + d * 256) * 256) * 256 = omega arith in
-    let q1 : n / 256 ≡ b + (c + d * 256) * 256 = ap (λ (m : ℕ). m / 256) e ∙ high a (b + (c + d * 256) * 256) ha in
-    let q2 : n / 65536 ≡ c + d * 256 = sym (shr-shr n 8 8) ∙ ap (λ (m : ℕ). m / 256) q1 ∙ high b (c + d * 256) hb in
-    let q3 : n / 16777216 ≡ d = sym (shr-shr n 16 8) ∙ ap (λ (m : ℕ). m / 256) q2 ∙ high c d hc in
-    let e0 : n % 256 ≡ a = ap (λ (m : ℕ). m % 256) e ∙ low a (b + (c + d * 256) * 256) ha in
-    let e1 : n / 256 % 256 ≡ b = ap (λ (m : ℕ). m % 256) q1 ∙ low b (c + d * 256) hb in
-    let e2 : n / 65536 % 256 ≡ c = ap (λ (m : ℕ). m % 256) q2 ∙ low c d hc in
-    let e3 : n / 16777216 % 256 ≡ d = ap (λ (m : ℕ). m % 256) q3 ∙ omega arith in
-    ap (λ (x : ℕ). x ∷ (n / 256 % 256) ∷ (n / 65536 % 256) ∷ (n / 16777216 % 256) ∷ []) e0
-    ∙ ap (λ (x : ℕ). a ∷ x ∷ (n / 65536 % 256) ∷ (n / 16777216 % 256) ∷ []) e1
-    ∙ ap (λ (x : ℕ). a ∷ b ∷ x ∷ (n / 16777216 % 256) ∷ []) e2
-    ∙ ap (λ (x : ℕ). a ∷ b ∷ c ∷ x ∷ []) e3
+small : (a b c d i : ℕ) → a < 256 → b < 256 → c < 256 → d < 256 → get_or (a ∷ b ∷ c ∷ d ∷ []) i 0 < 256
+small a b c d zero ha hb hc hd = ha
+small a b c d (suc zero) ha hb hc hd = hb
+small a b c d (suc (suc zero)) ha hb hc hd = hc
+small a b c d (suc (suc (suc zero))) ha hb hc hd = hd
+small a b c d (suc (suc (suc (suc i)))) ha hb hc hd = omega arith
 
 pub bytes_again : (bs : List ℕ) (n : ℕ) → length bs ≡ 4 * n → AllByRecursion (λ b. b < 256) bs → words_bytes (words_in bs) ≡ bs
 bytes_again [] n e h = refl
@@ -81,16 +32,8 @@ bytes_again (a ∷ []) n e h = absurd (omega arith)
 bytes_again (a ∷ b ∷ []) n e h = absurd (omega arith)
 bytes_again (a ∷ b ∷ c ∷ []) n e h = absurd (omega arith)
 bytes_again (a ∷ b ∷ c ∷ d ∷ rest) n e h =
-    ap (λ (r : List ℕ). r ++ words_bytes (words_in rest)) (four_bytes a b c d h.0 h.1.0 h.1.1.0 h.1.1.1.0)
+    ap (λ (r : List ℕ). r ++ words_bytes (words_in rest)) (le_bytes_4 (a ∷ b ∷ c ∷ d ∷ []) (four a b c d) refl (λ i. small a b c d i h.0 h.1.0 h.1.1.0 h.1.1.1.0) refl)
     ∙ ap (λ (r : List ℕ). a ∷ b ∷ c ∷ d ∷ r) (bytes_again rest (n - 1) (omega arith) h.1.1.1.1)
-
-pub none_past : (bs : List ℕ) (i : ℕ) → length bs / 4 ≤ i → None ≡ slice_get (words_in bs) i
-none_past bs i h = let e = length_words bs in sym (slice_get_past (words_in bs) i (omega arith))
-
-pub some_at : (bs : List ℕ) (i w : ℕ) → i < length bs / 4 → w ≡ four (get_or bs (4 * i) 0) (get_or bs (4 * i + 1) 0) (get_or bs (4 * i + 2) 0) (get_or bs (4 * i + 3) 0) → Some w ≡ slice_get (words_in bs) i
-some_at bs i w h e =
-    let l = length_words bs in
-    ap Some (e ∙ word_here bs i (omega arith)) ∙ sym (slice_get-get_or (words_in bs) i 0 (omega arith))
 
 abbrev put4 : List ℕ → ℕ → ℕ → ℕ → ℕ → ℕ → List ℕ
 put4 bs k a b c d = set (set (set (set bs k a) (suc k) b) (suc (suc k)) c) (suc (suc (suc k))) d
@@ -111,4 +54,4 @@ words_packed_in bs i w f h =
     let e1 : 4 * i + 1 ≡ suc (4 * i) = omega arith in
     let e2 : 4 * i + 2 ≡ suc (suc (4 * i)) = omega arith in
     let e3 : 4 * i + 3 ≡ suc (suc (suc (4 * i))) = omega arith in
-    rw (e1, e2, e3) (word_put bs i (w % 256) (w / 256 % 256) (w / 65536 % 256) (w / 16777216 % 256) (omega arith) ∙ ap (set (words_in bs) i) (digits w f))
+    rw (e1, e2, e3) (word_put bs i (w % 256) (w / 256 % 256) (w / 65536 % 256) (w / 16777216 % 256) (omega arith) ∙ ap (set (words_in bs) i) (from_le_bytes-to_le_bytes_4 w f))

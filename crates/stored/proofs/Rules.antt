@@ -1,30 +1,17 @@
 -- A stored rule loads as itself, and what loads is stored as the same bytes.
-use Rattle.std.proofs.Common.{◌≡◌, ℕ, ◌+◌, ◌-◌, ◌*◌, ◌/◌, ◌%◌, ◌<◌, ◌≤◌, Bool, true, false, cond, ◌&&◌, eqb, ltb, leb, List, [], ◌∷◌, ◌++◌, length, get_or, take, drop, Ok, Err, Result, sym, refl, ap, ◌∙◌, arith, w8, Fits}
+use Rattle.std.proofs.Common.{◌≡◌, ℕ, ◌+◌, ◌-◌, ◌*◌, ◌/◌, ◌%◌, ◌<◌, ◌≤◌, cond, eqb, ltb, leb, List, [], ◌∷◌, ◌++◌, length, get_or, take, drop, Ok, Err, Result, sym, ap, ◌∙◌, arith, w8, Fits}
 use Rattle.std.proofs.ByRecursion.{All-from_get_or}
-use Rattle.std.proofs.lemmas.List.{length-drop, take_at, take_rest}
-use Rattle.std.proofs.lemmas.Bool.{cond-true, cond-false, le-ltb, le-leb, eq-eqb, eqb-true, leb-true, ltb-false, and_from, and_parts}
+use Rattle.std.proofs.lemmas.List.{drop-drop, length-drop, take_at}
+use borrow.Rule.Slice.PartMut.{put_mid}
+use Rattle.std.proofs.lemmas.Bool.Decides.{nat_tests}
+use Rattle.std.proofs.lemmas.Bool.{cond-true, cond-false, le-ltb, le-leb, eq-eqb}
 use Rattle.std.specs.List.{AllByRecursion}
 use Rattle.stored.specs.declared.rule.LoadFault.{LoadFault}
-use Rattle.stored.specs.declared.rule.LoadFault.TheVariants.{Short, Mark, Version, TooManyWords, Length}
+use Rattle.stored.specs.declared.rule.LoadFault.TheVariants.{Short, TooManyWords, Length}
 use Rattle.stored.specs.declared.rule.RuleHeader.{RuleHeader}
-use Rattle.packing.specs.Packing.{words_in}
-use Rattle.stored.specs.Stored.{half_at, is_marked, counted, counts_in, header_in, Rule, rule_of, stored, body, with_words, loaded}
-use Rattle.packing.proofs.Words.{length_words, length_bytes, words_again, bytes_again}
-
-pub header_is : (bs : List ℕ) (r : Result RuleHeader LoadFault) → 11 ≤ length bs → get_or bs 0 0 ≡ 78 → get_or bs 1 0 ≡ 83 → get_or bs 2 0 ≡ 67 → r ≡ counts_in (take (length bs - 3) (drop 3 bs)) → r ≡ header_in bs
-header_is bs r long a b c e =
-    e ∙ ap counts_in (take_rest bs 3)
-    ∙ sym (cond-true (is_marked bs) _ _ (and_from _ _ (eq-eqb _ _ a) (and_from _ _ (eq-eqb _ _ b) (eq-eqb _ _ c))))
-    ∙ sym (cond-false (ltb (length bs) 11) _ _ (le-ltb _ _ long))
-
--- a test that an Ok has passed
-passed : {A E : Type 0} (b : Bool) (x : Result A E) (e : E) (h : A) → cond b x (Err e) ≡ Ok h → (b ≡ true) × (x ≡ Ok h)
-passed true x e h q = (refl, q)
-passed false x e h q = absurd (let z : ◌≡◌ {A = ℕ} 0 1 = cc in omega arith)
-
-not_taken : {A E : Type 0} (b : Bool) (x : Result A E) (e : E) (h : A) → cond b (Err e) x ≡ Ok h → (b ≡ false) × (x ≡ Ok h)
-not_taken false x e h q = (refl, q)
-not_taken true x e h q = absurd (let z : ◌≡◌ {A = ℕ} 0 1 = cc in omega arith)
+use Rattle.packing.specs.Packing.{words_bytes, words_in}
+use Rattle.stored.specs.Stored.{half_at, counted, counts_in, header_in, Rule, rule_of, header_bytes, stored, body, with_words, loaded, heading}
+use Rattle.packing.proofs.Words.{length_words, length_bytes, bytes_again}
 
 -- what a good header says of the bytes
 pub record Good (bs : List ℕ) (h : RuleHeader) : Type 0 where
@@ -43,34 +30,7 @@ abbrev sized : List ℕ → Result RuleHeader LoadFault
 sized rest = cond (eqb (length rest) (8 + 4 * half_at rest 2)) (Ok (counted rest)) (Err Length)
 
 pub good : (bs : List ℕ) (h : RuleHeader) → header_in bs ≡ Ok h → Good bs h
-good bs h e =
-    let rest = drop 3 bs in
-    let p1 = not_taken (ltb (length bs) 11) (cond (is_marked bs) (counts_in rest) (Err Mark)) Short h e in
-    let p2 = passed (is_marked bs) (counts_in rest) Mark h p1.1 in
-    let p3 = passed (eqb (half_at rest 0) 1) (cond (leb (half_at rest 2) 8192) (sized rest) (Err TooManyWords)) Version h p2.1 in
-    let p4 = passed (leb (half_at rest 2) 8192) (sized rest) TooManyWords h p3.1 in
-    let p5 = passed (eqb (length rest) (8 + 4 * half_at rest 2)) (Ok (counted rest)) Length h p4.1 in
-    let marks = and_parts (eqb (get_or bs 0 0) 78) (eqb (get_or bs 1 0) 83 && eqb (get_or bs 2 0) 67) p2.0 in
-    let more = and_parts (eqb (get_or bs 1 0) 83) (eqb (get_or bs 2 0) 67) marks.1 in
-    let long = ltb-false (length bs) 11 p1.0 in
-    let made = p5.1 in
-    let same : counted rest ≡ h = cc in
-    let words : half_at rest 2 ≡ h.words = ap (λ (x : RuleHeader). x.words) same in
-    let few = leb-true (half_at rest 2) 8192 p4.0 in
-    let size = eqb-true (length rest) (8 + 4 * half_at rest 2) p5.0 in
-    let left = length-drop 3 bs in
-    record {
-      long = long;
-      mark_n = eqb-true (get_or bs 0 0) 78 marks.0;
-      mark_s = eqb-true (get_or bs 1 0) 83 more.0;
-      mark_c = eqb-true (get_or bs 2 0) 67 more.1;
-      version = eqb-true (half_at rest 0) 1 p3.0;
-      few = omega arith;
-      size = omega arith;
-      words_is = words;
-      globals_is = ap (λ (x : RuleHeader). x.globals) same;
-      entry_is = ap (λ (x : RuleHeader). x.entry) same;
-    }
+good bs h e = grind (arith, nat_tests, length-drop)
 
 -- each byte of ten and the rest
 cons : {x y : ℕ} {xs ys : List ℕ} → x ≡ y → xs ≡ ys → x ∷ xs ≡ y ∷ ys
@@ -109,8 +69,8 @@ half_again n h = omega arith
 abbrev titled : ℕ → ℕ → ℕ → RuleHeader
 titled n globals entry = record { words = n; globals = globals; entry = entry }
 
-pub loaded_again : (r : Rule) → length r.words ≤ 8192 → r.globals < 65536 → r.entry < 65536 → AllByRecursion (λ w. w < 4294967296) r.words → loaded (stored r) ≡ Ok r
-loaded_again r few g e fit =
+pub loaded_again : (r : Rule) → length r.words ≤ 8192 → r.globals < 65536 → r.entry < 65536 → words_in (words_bytes r.words) ≡ r.words → loaded (stored r) ≡ Ok r
+loaded_again r few g e same_words =
     let n = length r.words in
     let bs = stored r in
     let rest = drop 3 bs in
@@ -127,7 +87,7 @@ loaded_again r few g e fit =
     ∙ ap (λ (x : ℕ). titled n x (half_at rest 6)) globals
     ∙ ap (titled n r.globals) entry in
     ap (λ (x : Result RuleHeader LoadFault). with_words x (body bs)) (header ∙ ap Ok same)
-    ∙ ap (λ (ws : List ℕ). Ok (rule_of (titled n r.globals r.entry) ws)) (words_again r.words fit)
+    ∙ ap (λ (ws : List ℕ). Ok (rule_of (titled n r.globals r.entry) ws)) same_words
 
 pub length_body : (bs : List ℕ) (h : RuleHeader) → Good bs h → length (body bs) ≡ h.words
 length_body bs h g = omega (arith, length_words (drop 11 bs), length-drop 11 bs)
@@ -138,3 +98,21 @@ front_again bs now old h fit g e =
     ap (λ (ws : List ℕ). stored (rule_of h (take h.words ws))) e
     ∙ ap (λ (ws : List ℕ). stored (rule_of h ws)) (take_at (body bs) (drop h.words old) h.words (length_body bs h g))
     ∙ stored_again bs h (All-from_get_or (λ b. b < 256) bs 0 (λ i _. (fit i).fits)) g
+
+-- a rule with a header has room in it for its numbers
+pub record Headed (r : Rule) (h : List ℕ) : Type 0 where
+  pub few : length r.words ≤ 8192
+  pub globals_fit : r.globals < 65536
+  pub entry_fits : r.entry < 65536
+  pub is : h ≡ header_bytes (length r.words) r.globals r.entry
+
+pub headed : (r : Rule) (h : List ℕ) → heading r ≡ Ok h → Headed r h
+headed r h e = grind (arith, nat_tests)
+
+-- header and words one behind the other
+pub both_parts : (r : Rule) (h front body old : List ℕ) → heading r ≡ Ok h → front ≡ h → body ≡ words_bytes r.words → put_mid 11 (11 + 4 * length r.words - 11) (front ++ drop 11 old) body ≡ stored r ++ drop (11 + 4 * length r.words) old
+both_parts r h front body old e f g =
+    let n = 4 * length r.words in
+    let k : 11 + (11 + n - 11) ≡ 11 + n = omega arith in
+    rw (f, (headed r h e).is, g)
+    (ap (λ (xs : List ℕ). stored r ++ xs) (drop-drop (11 + n - 11) 11 old ∙ ap (λ (m : ℕ). drop m old) k))

@@ -1,5 +1,5 @@
 -- A rule as bytes: NSC, then version, words, globals and entry in two bytes each, then four bytes a word, all with the low byte first.
-use Rattle.std.specs.Prelude.{◌≡◌, ℕ, ◌+◌, ◌*◌, ◌/◌, ◌%◌, ◌≤◌, Bool, cond, ◌&&◌, List, [], ◌∷◌, ◌++◌, length, take, drop, Ok, Err, Result, ◌==◌, nat_le, nat_lt, slice_index}
+use Rattle.std.specs.Prelude.{ℕ, ◌+◌, ◌*◌, ◌/◌, ◌%◌, Bool, cond, ◌&&◌, List, [], ◌∷◌, ◌++◌, length, drop, Ok, Err, Result, ◌==◌, nat_le, nat_lt, codes, slice_index}
 use Rattle.packing.specs.Packing.{words_bytes, words_in}
 use Rattle.stored.specs.declared.rule.LoadFault.{LoadFault}
 use Rattle.stored.specs.declared.rule.LoadFault.TheVariants.{Short, Mark, Version, TooManyWords, Length, NoRoom}
@@ -14,6 +14,14 @@ load_number Version = 12
 load_number TooManyWords = 13
 load_number Length = 13
 load_number NoRoom = 18
+
+abbrev pub load_words : LoadFault → List ℕ
+load_words Short = codes "it is shorter than the header of 11 bytes"
+load_words Mark = codes "it does not begin with NSC"
+load_words Version = codes "its version is not 1"
+load_words TooManyWords = codes "it says that it has over 8,192 words"
+load_words Length = codes "it is not as long as its word count says"
+load_words NoRoom = codes "its words do not fit the buffer"
 
 -- the number in two bytes, and its bytes
 abbrev pub half_at : List ℕ → ℕ → ℕ
@@ -86,6 +94,19 @@ store_number store_fault.Globals = 13
 store_number store_fault.Entry = 13
 store_number store_fault.NoRoom = 18
 
+abbrev pub store_words : StoreFault → List ℕ
+store_words store_fault.TooManyWords = codes "it has over 8,192 words"
+store_words store_fault.Globals = codes "it has over 65,535 globals"
+store_words store_fault.Entry = codes "its entry address is over 65,535"
+store_words store_fault.NoRoom = codes "the bytes do not fit the buffer"
+
+-- the header, if so many words, globals and such an entry can be said in it
+abbrev pub heading : Rule → Result (List ℕ) StoreFault
+heading r =
+    cond (nat_lt 8192 (length r.words)) (Err store_fault.TooManyWords)
+    (cond (nat_lt 65535 r.globals) (Err store_fault.Globals)
+    (cond (nat_lt 65535 r.entry) (Err store_fault.Entry) (Ok (header_bytes (length r.words) r.globals r.entry))))
+
 -- the length of the stored rule, if so many words, globals and such an entry can be stored in the room
 abbrev pub storing : ℕ → ℕ → ℕ → ℕ → Result ℕ StoreFault
 storing words globals entry room =
@@ -93,17 +114,6 @@ storing words globals entry room =
     (cond (nat_lt 65535 globals) (Err store_fault.Globals)
     (cond (nat_lt 65535 entry) (Err store_fault.Entry)
     (cond (nat_lt room (11 + 4 * words)) (Err store_fault.NoRoom) (Ok (11 + 4 * words)))))
-
-pub record Storable (words globals entry room n : ℕ) : Type 0 where
-  pub few : words ≤ 8192
-  pub globals_fit : globals ≤ 65535
-  pub entry_fits : entry ≤ 65535
-  pub length_is : n ≡ 11 + 4 * words
-  pub in_room : n ≤ room
-
--- bytes put over others
-abbrev pub pasted : List ℕ → ℕ → List ℕ → List ℕ
-pasted old at bs = take at old ++ (bs ++ drop (at + length bs) old)
 
 -- the buffer after the answer
 abbrev pub written : Result ℕ StoreFault → List ℕ → List ℕ → List ℕ

@@ -1,41 +1,15 @@
 // Bytes to rule: mark, version, counts, then the words.
-ghost use Rattle.std.specs.Prelude.{◌≡◌, ◌+◌, ◌*◌, ◌≤◌, ◌++◌, length, take, drop, IfOk};
+ghost use Rattle.std.specs.Prelude.{◌≡◌, ◌+◌, ◌*◌, length, take, IfOk};
 ghost use Rattle.packing.specs.Packing.{words_in};
-ghost use Rattle.stored.specs.Stored.{counts_in, filled, half_at, header_in, loading, rule_of, stored};
+ghost use Rattle.stored.specs.Stored.{filled, header_in, loading, rule_of, stored};
 
-use crate::rule::{
-    COUNTS_BYTES, HEADER_BYTES, LoadFault, MOST_WORDS, RuleHeader, VERSION, WORD_BYTES,
-};
-use packing::word_at;
+use crate::rule::{HEADER_BYTES, LoadFault, MOST_WORDS, RuleHeader, VERSION, WORD_BYTES};
 
-// The number in the two bytes from `at` on.
-fn half(bytes: &[u8], at: usize) -> usize
-    requires { at + 2 ≤ length bytes.now }
-    ensures { result ≡ half_at bytes.now at }
+// The number in two bytes.
+fn half(low: u8, high: u8) -> usize
+    ensures { result ≡ low + high * 256 }
 {
-    u16::from_le_bytes([bytes[at], bytes[at + 1]]) as usize
-}
-
-// What stands behind the mark.
-fn counts(rest: &[u8]) -> Result<RuleHeader, LoadFault>
-    requires { 8 ≤ length rest.now }
-    ensures { result ≡ counts_in rest.now }
-{
-    if half(rest, 0) != VERSION as usize {
-        return Err(LoadFault::Version);
-    }
-    let words = half(rest, 2);
-    if words > MOST_WORDS {
-        return Err(LoadFault::TooManyWords);
-    }
-    if rest.len() != COUNTS_BYTES + WORD_BYTES * words {
-        return Err(LoadFault::Length);
-    }
-    Ok(RuleHeader {
-        words,
-        globals: half(rest, 4),
-        entry: half(rest, 6),
-    })
+    usize::from(u16::from_le_bytes([low, high]))
 }
 
 fn header(bytes: &[u8]) -> Result<RuleHeader, LoadFault>
@@ -44,18 +18,34 @@ fn header(bytes: &[u8]) -> Result<RuleHeader, LoadFault>
     if bytes.len() < HEADER_BYTES {
         return Err(LoadFault::Short);
     }
-    match bytes {
-        [b'N', b'S', b'C', rest @ ..] => counts(rest),
-        _ => Err(LoadFault::Mark),
+    let [b'N', b'S', b'C', v0, v1, w0, w1, g0, g1, e0, e1, body @ ..] = bytes else {
+        return Err(LoadFault::Mark);
+    };
+    if u16::from_le_bytes([*v0, *v1]) != VERSION {
+        return Err(LoadFault::Version);
     }
+    let words = half(*w0, *w1);
+    if words > MOST_WORDS {
+        return Err(LoadFault::TooManyWords);
+    }
+    if body.len() != WORD_BYTES * words {
+        return Err(LoadFault::Length);
+    }
+    Ok(RuleHeader {
+        words,
+        globals: half(*g0, *g1),
+        entry: half(*e0, *e1),
+    })
 }
 
-fn read_words(bytes: &[u8], words: &mut [u32], count: usize)
-    requires { (length bytes.now ≡ 4 * count) × (count ≤ length words.old) }
-    ensures { words.new ≡ words_in bytes.now ++ drop count words.old }
+fn read_words(bytes: &[u8], words: &mut [u32])
+    requires { length bytes.now ≡ 4 * length words.old }
+    ensures { words.new ≡ words_in bytes.now }
 {
-    for i in 0..count {
-        words[i] = word_at(bytes, i).unwrap_or(0);
+    // Words and chunks zipped leave the proof open (tried): std then says nothing of what the words are at the end.
+    let (fours, _) = bytes.as_chunks::<4>();
+    for (i, word) in words.iter_mut().enumerate() {
+        *word = u32::from_le_bytes(fours[i]);
     }
 }
 
@@ -69,6 +59,6 @@ pub fn load(bytes: &[u8], words: &mut [u32]) -> Result<RuleHeader, LoadFault>
     if words.len() < header.words {
         return Err(LoadFault::NoRoom);
     }
-    read_words(&bytes[HEADER_BYTES..], words, header.words);
+    read_words(&bytes[HEADER_BYTES..], &mut words[..header.words]);
     Ok(header)
 }

@@ -1,16 +1,18 @@
 // What a stored rule tells, and why one is refused.
-ghost use Rattle.std.specs.Prelude.{◌≡◌};
-ghost use Rattle.stored.specs.Stored.{load_number, store_number};
+ghost use Rattle.std.specs.Prelude.{◌≡◌, Some};
+ghost use Rattle.stored.specs.Stored.{load_number, load_words, rule, Rule, store_number, store_words};
+
+use std::error::Error;
+use std::fmt;
+use std::marker::Model;
 
 pub const MOST_WORDS: usize = 8192;
 
 pub const VERSION: u16 = 1;
 
-pub(crate) const MOST_HALF: usize = 65535;
-
 const MARK_BYTES: usize = 3;
 
-pub(crate) const COUNTS_BYTES: usize = 8;
+const COUNTS_BYTES: usize = 8;
 
 pub(crate) const HEADER_BYTES: usize = MARK_BYTES + COUNTS_BYTES;
 
@@ -23,7 +25,21 @@ pub struct RuleHeader {
     pub entry: usize,
 }
 
-#[derive(Clone, Copy)]
+// A rule to be stored, whose words stay the caller's.
+#[derive(Drop)]
+pub struct BorrowedRule<'a> {
+    pub words: &'a [u32],
+    pub globals: usize,
+    pub entry: usize,
+}
+
+impl<'a> Model for BorrowedRule<'a> {
+    ghost Value = { Rule };
+
+    ghost view = { λ r. rule r.globals r.entry r.words.now };
+}
+
+#[derive(Clone, Copy, Debug, PartialEq, Eq)]
 pub enum LoadFault {
     // fewer bytes than a header has
     Short,
@@ -38,6 +54,7 @@ pub enum LoadFault {
 }
 
 impl LoadFault {
+    // Three faults have one number, so the numbers are no discriminants.
     pub fn number(self) -> u8
         ensures { result ≡ load_number self }
     {
@@ -52,7 +69,24 @@ impl LoadFault {
     }
 }
 
-#[derive(Clone, Copy)]
+impl fmt::Display for LoadFault {
+    ghost output = { λ fault. Some (load_words fault) };
+
+    fn fmt<W: fmt::Write>(&self, f: &mut fmt::Formatter<W>) -> fmt::Result {
+        f.write_str(match self {
+            LoadFault::Short => "it is shorter than the header of 11 bytes",
+            LoadFault::Mark => "it does not begin with NSC",
+            LoadFault::Version => "its version is not 1",
+            LoadFault::TooManyWords => "it says that it has over 8,192 words",
+            LoadFault::Length => "it is not as long as its word count says",
+            LoadFault::NoRoom => "its words do not fit the buffer",
+        })
+    }
+}
+
+impl Error for LoadFault {}
+
+#[derive(Clone, Copy, Debug, PartialEq, Eq)]
 pub enum StoreFault {
     TooManyWords,
     // more globals than two bytes can say
@@ -64,6 +98,7 @@ pub enum StoreFault {
 }
 
 impl StoreFault {
+    // Three faults have one number, so the numbers are no discriminants.
     pub fn number(self) -> u8
         ensures { result ≡ store_number self }
     {
@@ -75,3 +110,18 @@ impl StoreFault {
         }
     }
 }
+
+impl fmt::Display for StoreFault {
+    ghost output = { λ fault. Some (store_words fault) };
+
+    fn fmt<W: fmt::Write>(&self, f: &mut fmt::Formatter<W>) -> fmt::Result {
+        f.write_str(match self {
+            StoreFault::TooManyWords => "it has over 8,192 words",
+            StoreFault::Globals => "it has over 65,535 globals",
+            StoreFault::Entry => "its entry address is over 65,535",
+            StoreFault::NoRoom => "the bytes do not fit the buffer",
+        })
+    }
+}
+
+impl Error for StoreFault {}

@@ -1,71 +1,50 @@
 // Rule to bytes.
-ghost use Rattle.std.specs.Prelude.{◌≡◌, ◌+◌, ◌*◌, ◌≤◌, ◌++◌, length, take, drop, IfOk, Ok};
-ghost use Rattle.packing.specs.Packing.{words_bytes};
-ghost use Rattle.stored.specs.Stored.{header_bytes, loaded, pasted, rule, Storable, stored, storing, written};
+ghost use Rattle.std.specs.Prelude.{◌≡◌, ◌*◌, length, take, IfOk, Ok};
+ghost use Rattle.packing.specs.Packing.{words_bytes, words_in};
+ghost use Rattle.stored.specs.Stored.{heading, loaded, stored, storing, written};
 
-use crate::rule::{HEADER_BYTES, MOST_HALF, MOST_WORDS, StoreFault, VERSION, WORD_BYTES};
+use crate::rule::{BorrowedRule, HEADER_BYTES, MOST_WORDS, StoreFault, VERSION, WORD_BYTES};
 
-// How many bytes the rule needs, if it can be stored.
-fn needed(words: usize, globals: usize, entry: usize, room: usize) -> Result<usize, StoreFault>
-    ensures answer { result ≡ storing words globals entry room }
-    ensures fits { IfOk result (λ n. Storable words globals entry room n) }
+// The bytes in front of the words, if the rule's numbers have room in them.
+fn header(rule: &BorrowedRule<'_>) -> Result<[u8; HEADER_BYTES], StoreFault>
+    ensures { result ≡ heading rule.now }
 {
-    if words > MOST_WORDS {
+    if rule.words.len() > MOST_WORDS {
         return Err(StoreFault::TooManyWords);
     }
-    if globals > MOST_HALF {
-        return Err(StoreFault::Globals);
-    }
-    if entry > MOST_HALF {
-        return Err(StoreFault::Entry);
-    }
-    let length = HEADER_BYTES + WORD_BYTES * words;
-    if room < length {
-        return Err(StoreFault::NoRoom);
-    }
-    Ok(length)
-}
-
-fn put(out: &mut [u8], at: usize, bytes: &[u8])
-    requires { at + length bytes.now ≤ length out.old }
-    ensures { out.new ≡ pasted out.old at bytes.now }
-{
-    out[at..at + bytes.len()].copy_from_slice(bytes);
-}
-
-fn write_header(out: &mut [u8], words: u16, globals: u16, entry: u16)
-    requires { 11 ≤ length out.old }
-    ensures { out.new ≡ header_bytes words globals entry ++ drop 11 out.old }
-{
-    put(out, 0, b"NSC");
-    put(out, 3, &VERSION.to_le_bytes());
-    put(out, 5, &words.to_le_bytes());
-    put(out, 7, &globals.to_le_bytes());
-    put(out, 9, &entry.to_le_bytes());
+    let globals = u16::try_from(rule.globals).map_err(|_| StoreFault::Globals)?;
+    let entry = u16::try_from(rule.entry).map_err(|_| StoreFault::Entry)?;
+    let [v0, v1] = VERSION.to_le_bytes();
+    let [w0, w1] = (rule.words.len() as u16).to_le_bytes();
+    let [g0, g1] = globals.to_le_bytes();
+    let [e0, e1] = entry.to_le_bytes();
+    Ok([b'N', b'S', b'C', v0, v1, w0, w1, g0, g1, e0, e1])
 }
 
 fn write_words(out: &mut [u8], words: &[u32])
-    requires { 11 + 4 * length words.now ≤ length out.old }
-    ensures { out.new ≡ (take 11 out.old ++ words_bytes words.now) ++ drop (11 + 4 * length words.now) out.old }
+    requires { length out.old ≡ 4 * length words.now }
+    ensures bytes { out.new ≡ words_bytes words.now }
+    ensures again { words_in out.new ≡ words.now }
 {
+    // By chunks_exact_mut the proof stays open (tried): std then says nothing of what the bytes are at the end.
     for (i, word) in words.iter().enumerate() {
-        put(out, HEADER_BYTES + WORD_BYTES * i, &word.to_le_bytes());
+        let at = WORD_BYTES * i;
+        out[at..at + WORD_BYTES].copy_from_slice(&word.to_le_bytes());
     }
 }
 
 // The bytes go to the front of `out`, whose rest stays; a refusal leaves all of it.
-pub fn store(
-    words: &[u32],
-    globals: usize,
-    entry: usize,
-    out: &mut [u8],
-) -> Result<usize, StoreFault>
-    ensures answer { result ≡ storing (length words.now) globals entry (length out.old) }
-    ensures after { out.new ≡ written result (stored (rule globals entry words.now)) out.old }
-    ensures again { IfOk result (λ n. loaded (take n out.new) ≡ Ok (rule globals entry words.now)) }
+pub fn store(rule: &BorrowedRule<'_>, out: &mut [u8]) -> Result<usize, StoreFault>
+    ensures answer { result ≡ storing (length rule.now.words) rule.now.globals rule.now.entry (length out.old) }
+    ensures after { out.new ≡ written result (stored rule.now) out.old }
+    ensures again { IfOk result (λ n. loaded (take n out.new) ≡ Ok rule.now) }
 {
-    let length = needed(words.len(), globals, entry, out.len())?;
-    write_header(out, words.len() as u16, globals as u16, entry as u16);
-    write_words(out, words);
+    let header = header(rule)?;
+    let length = HEADER_BYTES + WORD_BYTES * rule.words.len();
+    if out.len() < length {
+        return Err(StoreFault::NoRoom);
+    }
+    out[..HEADER_BYTES].copy_from_slice(&header);
+    write_words(&mut out[HEADER_BYTES..length], rule.words);
     Ok(length)
 }

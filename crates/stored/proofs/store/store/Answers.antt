@@ -1,29 +1,27 @@
 -- Header and words make the stored rule, and it loads as the same rule.
-use Rattle.std.proofs.Common.{◌≡◌, ℕ, ◌<◌, List, ◌++◌, length, take, drop, sym, refl, ap, ◌∙◌, arith}
-use Rattle.std.proofs.ByRecursion.{All-from_get_or}
+use Rattle.std.proofs.Common.{rules, ◌≡◌, ◌+◌, ◌*◌, length, drop, Ok, sym, ap, ◌∙◌, arith}
 use Rattle.std.proofs.lemmas.List.{take_at}
-use Rattle.stored.specs.Stored.{header_bytes, loaded, rule, Storable, stored}
+use Rattle.packing.specs.Packing.{words_bytes, words_in}
 use Rattle.packing.proofs.Words.{length_bytes}
-use Rattle.stored.proofs.Pasted.{both_parts}
-use Rattle.stored.proofs.Rules.{loaded_again}
+use Rattle.stored.specs.Stored.{heading, loaded, Rule, stored}
+use Rattle.stored.proofs.Rules.{both_parts, Headed, headed, loaded_again}
 use Rattle.stored.proofs.store.store.Goals as goal
 
 pub returns : goal.returns
 returns c =
-    let ws = c.args.words.now in
-    let old = c.args.out.now in
-    let n = c.in_ok-length.length in
-    let r = rule c.args.globals c.args.entry ws in
-    let fits : Storable (length ws) c.args.globals c.args.entry (length old) n = c.in_ok-length.ensures.fits in
-    let after : c.write_words.new.out ≡ stored r ++ drop n old =
-    both_parts (header_bytes (length ws) c.args.globals c.args.entry) ws old c.write_header.new.out c.write_words.new.out n refl fits.length_is c.write_header.ensures c.write_words.ensures in
-    let size : length (stored r) ≡ n = omega (arith, length_bytes ws) in
-    let whole = All-from_get_or (λ w. w < 4294967296) ws 0 (λ i _. (c.type_inv.words i).fits) in
+    let r = c.args.rule.now in
+    let ws = c.rule.inside.words.now in
+    let h = c.in_ok-header.header in
+    let same : ws ≡ r.words = ap (λ (x : Rule). x.words) c.rule.view_is in
+    let made : heading r ≡ Ok h = sym c.header.ensures ∙ c.in_ok-header.was in
+    let parts : Headed r h = headed r h made in
+    let n = 11 + 4 * length r.words in
+    let after = both_parts r h c.copy_from_slice.new.self c.write_words.new.out c.args.out.now made c.copy_from_slice.ensures.after (c.write_words.ensures.bytes ∙ ap words_bytes same) in
     record {
-      answer = sym c.in_ok-length.was ∙ c.needed.ensures.answer;
-      after = after;
+      answer = search rules;
+      after = rw same after;
       again =
-          ap (λ (xs : List ℕ). loaded (take n xs)) after
-          ∙ ap loaded (take_at (stored r) (drop n old) n size)
-          ∙ loaded_again r fits.few (omega arith) (omega arith) whole;
+          rw (same, after)
+          (ap loaded (take_at (stored r) (drop n c.args.out.now) n (omega (arith, length_bytes r.words)))
+          ∙ loaded_again r parts.few parts.globals_fit parts.entry_fits (ap words_in (ap words_bytes (sym same) ∙ sym c.write_words.ensures.bytes) ∙ c.write_words.ensures.again ∙ same));
     }
