@@ -11,8 +11,6 @@ behind n xs = drop n xs
 unfoldable pub bytes_behind : ℕ → List ℕ → List ℤ
 bytes_behind n bs = map pos (drop (4 * min n (length bs / 4)) bs)
 
-abbrev pub around_words : GName → List ℤ → Around
-around_words place xs = record { place = place; rest = behind 65536 xs }
-
-abbrev pub around_bytes : GName → List ℕ → Around
-around_bytes place bs = record { place = place; rest = bytes_behind 16384 bs }
+-- which buffer it is, and what lies behind the cells
+abbrev pub around : GName → List ℤ → Around
+around place rest = record { place = place; rest = rest }

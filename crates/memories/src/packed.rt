@@ -1,73 +1,49 @@
 // A memory packed in bytes: four to a cell, the low byte first, 16,384 cells at most. Bytes past these, or past the last
 // whole four, are never read or written.
-ghost use Rattle.std.specs.Prelude.{◌≡◌, ◌/◌, ◌≤◌, length, is_ok, if◌then◌else◌, nat_lt, slice_set};
-ghost use Rattle.std.specs.Int.{w32};
-ghost use Rattle.std.proofs.Common.{of_z};
+ghost use Rattle.std.specs.Prelude.{◌≡◌};
+ghost use Rattle.std.proofs.Common.{ap, ◌∙◌, lit≤, of_z, w32};
 ghost use Rattle.packing.specs.Packing.{cells_of, packed_in};
-ghost use Rattle.runtime.specs.First.{first};
-ghost use Rattle.memories.specs.Kinds.{around_bytes};
+ghost use Rattle.memories.specs.Kinds.{bytes_behind};
+ghost use Rattle.memories.specs.Laws.{packed_behind, packed_cells};
 
+use crate::lent::{Buffer, Lent, Part};
 use packing::{cell_at, set_word};
-use runtime::memory::{Memory, Outside};
+use runtime::memory::Outside;
 
-const MOST: usize = 16384;
+pub type Packed<'a> = Lent<&'a mut [u8]>;
 
-#[derive(Drop)]
-pub struct Packed<'a> {
-    pub bytes: &'a mut [u8],
+impl Part for u8 {
+    const MOST_CELLS: usize = 16384;
+
+    ghost MOST_CELLS = { 16384 };
+
+    ghost few = { lit≤ tt };
 }
 
-// How many cells the bytes have.
-fn used_bytes(bytes: &[u8]) -> usize
-    ensures answer { result ≡ length (first 16384 (cells_of bytes.now)) }
-    ensures low { result ≤ length bytes.now / 4 }
-    ensures high { result ≤ 16384 }
-{
-    (bytes.len() / 4).min(MOST)
-}
+impl Buffer for &mut [u8] {
+    type Part = u8;
 
-fn write_packed(bytes: &mut [u8], i: usize, v: i32) -> Result<(), Outside>
-    ensures answer { is_ok result ≡ nat_lt i (length (first 16384 (cells_of bytes.old))) }
-    ensures lent { bytes.new ≡ (if is_ok result then packed_in bytes.old i (of_z w32 v) else bytes.old) }
-{
-    if i >= used_bytes(bytes) {
-        return Err(Outside);
-    }
-    let _ = set_word(bytes, i, v.cast_unsigned());
-    Ok(())
-}
+    ghost cells = { λ bytes. cells_of bytes.now };
 
-impl Memory for Packed<'_> {
-    const MAX_CELLS: usize = MOST;
+    ghost behind = { λ bytes. bytes_behind 16384 bytes.now };
 
-    ghost cells = { λ m. first 16384 (cells_of m.bytes.now) };
+    ghost place = { λ bytes. bytes.ghost_name };
 
-    ghost most = { 16384 };
+    ghost Written = { λ a i v b. b.now ≡ packed_in a.now i (of_z w32 v) };
 
-    ghost around = { λ m. around_bytes m.bytes.ghost_name m.bytes.now };
-
-    fn limit(&self) -> usize {
-        Self::MAX_CELLS
+    fn cell_count(&self) -> usize {
+        self.len() / 4
     }
 
-    fn len(&self) -> usize {
-        used_bytes(&*self.bytes)
+    fn cell(&self, i: usize) -> Option<i32> {
+        cell_at(&**self, i)
     }
 
-    fn read(&self, i: usize) -> Option<i32> {
-        let bytes: &[u8] = &*self.bytes;
-        if i >= used_bytes(bytes) {
-            return None;
-        }
-        cell_at(bytes, i)
+    fn set_cell(&mut self, i: usize, v: i32) -> Result<(), Outside> {
+        set_word(&mut **self, i, v.cast_unsigned()).map_err(|_| Outside)
     }
 
-    fn write(&mut self, i: usize, v: i32) -> Result<(), Outside>
-        ensures answer { is_ok result ≡ nat_lt i (length (first 16384 (cells_of self.old.bytes.now))) }
-        ensures after { first 16384 (cells_of self.new.bytes.now) ≡ slice_set (first 16384 (cells_of self.old.bytes.now)) i v }
-        ensures around { around_bytes self.new.bytes.ghost_name self.new.bytes.now ≡ around_bytes self.old.bytes.ghost_name self.old.bytes.now }
-        ensures lent { self.new.bytes.now ≡ (if is_ok result then packed_in self.old.bytes.now i (of_z w32 v) else self.old.bytes.now) }
-    {
-        write_packed(self.bytes, i, v)
-    }
+    ghost one_written = { λ a b i v f h e. ap cells_of e ∙ packed_cells a.now i v f h };
+
+    ghost none_behind = { λ a b i v h e. ap (bytes_behind 16384) e ∙ packed_behind 16384 a.now i (of_z w32 v) h };
 }

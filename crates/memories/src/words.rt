@@ -1,68 +1,52 @@
 // A memory over words: a cell each, 65,536 at most. Words past these are never read or written.
-ghost use Rattle.std.specs.Prelude.{◌≡◌, ◌≤◌, length, is_ok, if◌then◌else◌, nat_lt, slice_set};
-ghost use Rattle.runtime.specs.First.{first};
-ghost use Rattle.memories.specs.Kinds.{around_words};
+ghost use Rattle.std.specs.Prelude.{◌≡◌, slice_set};
+ghost use Rattle.std.proofs.Common.{ap, ◌∙◌, lit≤};
+ghost use Rattle.memories.specs.Kinds.{behind};
+ghost use Rattle.memories.specs.Laws.{behind_set};
 
-use runtime::memory::{Memory, Outside};
+use crate::lent::{Buffer, Lent, Part};
+use runtime::memory::Outside;
 
-const MOST: usize = 65536;
+pub type Words<'a> = Lent<&'a mut [i32]>;
 
-#[derive(Drop)]
-pub struct Words<'a> {
-    pub cells: &'a mut [i32],
+impl Part for i32 {
+    const MOST_CELLS: usize = 65536;
+
+    ghost MOST_CELLS = { 65536 };
+
+    ghost few = { lit≤ tt };
 }
 
-// How many of the words are cells.
-fn used(cells: &[i32]) -> usize
-    ensures answer { result ≡ length (first 65536 cells.now) }
-    ensures low { result ≤ length cells.now }
-    ensures high { result ≤ 65536 }
-{
-    cells.len().min(MOST)
-}
+impl Buffer for &mut [i32] {
+    type Part = i32;
 
-fn write_word(cells: &mut [i32], i: usize, v: i32) -> Result<(), Outside>
-    ensures answer { is_ok result ≡ nat_lt i (length (first 65536 cells.old)) }
-    ensures lent { cells.new ≡ (if is_ok result then slice_set cells.old i v else cells.old) }
-{
-    if i >= used(cells) {
-        return Err(Outside);
-    }
-    cells[i] = v;
-    Ok(())
-}
+    ghost cells = { λ words. words.now };
 
-impl Memory for Words<'_> {
-    const MAX_CELLS: usize = MOST;
+    ghost behind = { λ words. behind 65536 words.now };
 
-    ghost cells = { λ m. first 65536 m.cells.now };
+    ghost place = { λ words. words.ghost_name };
 
-    ghost most = { 65536 };
+    ghost Written = { λ a i v b. b.now ≡ slice_set a.now i v };
 
-    ghost around = { λ m. around_words m.cells.ghost_name m.cells.now };
-
-    fn limit(&self) -> usize {
-        Self::MAX_CELLS
+    fn cell_count(&self) -> usize {
+        self.len()
     }
 
-    fn len(&self) -> usize {
-        used(&*self.cells)
+    fn cell(&self, i: usize) -> Option<i32> {
+        let words: &[i32] = &**self;
+        words.get(i).copied()
     }
 
-    fn read(&self, i: usize) -> Option<i32> {
-        let cells: &[i32] = &*self.cells;
-        if i >= used(cells) {
-            return None;
+    fn set_cell(&mut self, i: usize, v: i32) -> Result<(), Outside> {
+        // By index: the contract of `get_mut` says nothing of what the words end as.
+        if i >= self.len() {
+            return Err(Outside);
         }
-        Some(cells[i])
+        self[i] = v;
+        Ok(())
     }
 
-    fn write(&mut self, i: usize, v: i32) -> Result<(), Outside>
-        ensures answer { is_ok result ≡ nat_lt i (length (first 65536 self.old.cells.now)) }
-        ensures after { first 65536 self.new.cells.now ≡ slice_set (first 65536 self.old.cells.now) i v }
-        ensures around { around_words self.new.cells.ghost_name self.new.cells.now ≡ around_words self.old.cells.ghost_name self.old.cells.now }
-        ensures lent { self.new.cells.now ≡ (if is_ok result then slice_set self.old.cells.now i v else self.old.cells.now) }
-    {
-        write_word(self.cells, i, v)
-    }
+    ghost one_written = { λ a b i v f h e. e };
+
+    ghost none_behind = { λ a b i v h e. ap (behind 65536) e ∙ behind_set 65536 a.now i v h };
 }

@@ -1,11 +1,11 @@
 -- The numbers within a limit: how many, which, and one that is written.
-use Rattle.std.proofs.Common.{◌≡◌, ℕ, zero, suc, ◌<◌, ◌≤◌, min, List, [], ◌∷◌, length, get_or, take, set, ℤ, pos, Some, sym, refl, ap, ◌∙◌, arith, get_or-take}
-use lib.Seq.{take-set-lt}
+use Rattle.std.proofs.Common.{◌≡◌, ℕ, ◌<◌, ◌≤◌, min, List, length, get_or, take, set, ℤ, pos, Some, sym, ap, ◌∙◌, arith, get_or-take}
+use Rattle.std.proofs.Math.Seq.{take-set-lt}
 use Rattle.std.specs.List.{slice_get}
-use Rattle.std.proofs.lemmas.List.{length-take, take_all}
+use Rattle.std.proofs.lemmas.List.{length-take, take_all, take_min}
 use Rattle.std.proofs.lemmas.Option.{slice_get-get_or}
 use Rattle.runtime.specs.First.{first}
-use Rattle.runtime.proofs.Below.{take_old}
+use Rattle.runtime.proofs.Below.{nth_take}
 
 pub length_first : (n : ℕ) (xs : List ℤ) → length (first n xs) ≡ min n (length xs)
 unfolding first
@@ -25,10 +25,7 @@ nth_first n xs i v h e = ap Some (e ∙ sym (get_or_first n xs i h)) ∙ sym (sl
 -- below the limit the list is the same, also past its end
 pub nth_within : (n : ℕ) (xs : List ℤ) (i : ℕ) → i < n → slice_get xs i ≡ slice_get (first n xs) i
 unfolding first
-nth_within zero xs i h = absurd (omega arith)
-nth_within (suc n) [] i h = refl
-nth_within (suc n) (x ∷ xs) zero h = refl
-nth_within (suc n) (x ∷ xs) (suc i) h = nth_within n xs i (omega arith)
+nth_within n xs i h = sym (nth_take n xs i h)
 
 pub first_all : (n : ℕ) (xs : List ℤ) → length xs ≤ n → first n xs ≡ xs
 unfolding first
@@ -36,4 +33,4 @@ first_all n xs h = take_all n xs h
 
 pub first_is : (n : ℕ) (xs : List ℤ) → first n xs ≡ take (min (length xs) n) xs
 unfolding first
-first_is n xs = let e : min (length xs) n ≡ min n (length xs) = omega arith in sym (take_old n xs (min (length xs) n) e)
+first_is n xs = let e : min n (length xs) ≡ min (length xs) n = omega arith in sym (take_min n xs) ∙ ap (λ k. take k xs) e

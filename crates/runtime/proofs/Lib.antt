@@ -1,4 +1,3 @@
 pub mod Below
 pub mod Firsts
 pub mod Spares
-pub mod Texts

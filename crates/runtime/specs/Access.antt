@@ -1,7 +1,9 @@
 -- Memory below the top: reading and writing at base plus index, and new cells.
-use Rattle.std.specs.Prelude.{ℕ, ◌+◌, Bool, false, cond, List, ◌++◌, length, drop, replicate, ℤ, pos, negsuc, ◌+ℤ◌, Some, None, Ok, Err, Option, Result, nat_le, nat_lt, slice_set}
+use Rattle.std.specs.Prelude.{ℕ, ◌+◌, Bool, false, cond, List, ◌++◌, length, drop, replicate, ℤ, pos, negsuc, ◌+ℤ◌, None, Ok, Err, Option, Result, nat_le, nat_lt, slice_set}
 use Rattle.std.specs.Int.{int_wrap, w32}
+use Rattle.std.specs.Bool.{then_some}
 use Rattle.std.specs.List.{slice_get}
+use Rattle.std.specs.Option.{ok_or}
 use Rattle.runtime.specs.declared.stop.Stop.{Stop}
 use Rattle.runtime.specs.declared.stop.Stop.TheVariants.{Address, MemoryFull, NegativeSize}
 
@@ -34,13 +36,14 @@ over cells below = below ++ drop (length below) cells
 abbrev pub address : ℤ → ℤ → ℤ
 address base index = int_wrap w32 (base +ℤ index)
 
-abbrev pub reached : Option ℤ → Result ℤ Stop
-reached (Some v) = Ok v
-reached None = Err Address
+-- the place at an integer, where it lies below the top
+abbrev pub place : ℕ → ℤ → Option ℕ
+place top (pos n) = then_some (nat_lt n top) n
+place top (negsuc n) = None
 
 -- the cell at base plus index
 abbrev pub fetched : List ℤ → ℤ → ℤ → Result ℤ Stop
-fetched below base index = reached (nth_integer below (address base index))
+fetched below base index = ok_or (nth_integer below (address base index)) Address
 
 abbrev pub stored_at : List ℤ → ℤ → ℤ → Effect
 stored_at below a v = cond (inside below a) (record { result = Ok v; below = set_integer below a v }) (unchanged Address below)

@@ -4,3 +4,5 @@ pub mod Meanings
 pub mod Operators
 pub mod Stops
 pub mod System
+pub mod InUse
+pub mod InUseMut

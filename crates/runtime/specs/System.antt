@@ -1,6 +1,7 @@
 -- What a rule asks of its host: a number or a byte for the report, a fact.
-use Rattle.std.specs.Prelude.{◌≡◌, ℕ, ◌+◌, cond, List, [], ◌∷◌, ◌++◌, length, ℤ, pos, negsuc, Some, None, Ok, Err, Option, Result, nat_le, nat_lt}
+use Rattle.std.specs.Prelude.{◌≡◌, ℕ, ◌+◌, cond, List, [], ◌∷◌, ◌++◌, length, ℤ, pos, negsuc, Ok, Err, Result, nat_le, nat_lt}
 use Rattle.std.specs.Fmt.{signed_decimal}
+use Rattle.std.specs.Option.{ok_or}
 use Rattle.runtime.specs.Access.{nth_integer}
 use Rattle.runtime.specs.Meanings.{Spared}
 use Rattle.runtime.specs.declared.stop.Stop.{Stop}
@@ -37,10 +38,6 @@ Writes report spare before after meaning r = record { result = r; report = repor
 abbrev pub Grew : {H : Type 0} (report spare : H → List ℕ) → H → H → Type 0
 Grew report spare before after = Spared (report before) (spare before) (report after) (spare after)
 
-abbrev pub told : Option ℤ → Result ℤ Stop
-told (Some v) = Ok v
-told None = Err NoFact
-
 -- the fact of that number
 abbrev pub fact_told : List ℤ → ℤ → Result ℤ Stop
-fact_told facts k = told (nth_integer facts k)
+fact_told facts k = ok_or (nth_integer facts k) NoFact

@@ -4,27 +4,22 @@ ghost use Rattle.std.specs.List.{slice_get};
 ghost use Rattle.runtime.specs.Meanings.{Around};
 
 // There is no cell at that place.
-#[derive(Clone, Copy)]
+#[derive(Clone, Copy, Debug, PartialEq, Eq)]
 pub struct Outside;
 
 pub trait Memory {
     // The most cells that a memory of this kind can have, never over 65,536.
     const MAX_CELLS: usize;
 
-    ghost cells: { Self → List ℤ };
+    ghost MAX_CELLS: { ℕ };
 
-    ghost most: { ℕ };
+    ghost cells: { Self → List ℤ };
 
     ghost around: { Self → Around };
 
-    // MAX_CELLS, as the clauses have it.
-    fn limit(&self) -> usize
-        ensures answer { result ≡ most }
-        ensures small { result ≤ 65536 };
-
     fn len(&self) -> usize
         ensures answer { result ≡ length (cells self.now) }
-        ensures most { result ≤ most }
+        ensures most { result ≤ MAX_CELLS }
         ensures small { result ≤ 65536 };
 
     // The cell, or nothing outside.
@@ -36,4 +31,14 @@ pub trait Memory {
         ensures answer { is_ok result ≡ nat_lt i (length (cells self.old)) }
         ensures after { cells self.new ≡ slice_set (cells self.old) i v }
         ensures around { around self.new ≡ around self.old };
+
+    // MAX_CELLS, from a memory at hand.
+    final fn limit(&self) -> usize
+        ensures answer { result ≡ MAX_CELLS }
+        ensures small { result ≤ 65536 }
+    {
+        Self::MAX_CELLS
+    }
+
+    ghost few: { MAX_CELLS ≤ 65536 };
 }

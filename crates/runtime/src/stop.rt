@@ -1,8 +1,12 @@
 // Why a run ends without a value.
 ghost use Rattle.std.specs.Prelude.{◌≡◌};
 ghost use Rattle.runtime.specs.Stops.{number_of};
+ghost use Rattle.runtime.specs.declared.stop.Stop.TheVariants.{Address, ReportFull};
 
-#[derive(Clone, Copy)]
+use crate::host::Full;
+use crate::memory::Outside;
+
+#[derive(Clone, Copy, Debug, PartialEq, Eq)]
 pub enum Stop {
     // The ticks or steps that the run was allowed are used up.
     Allowance,
@@ -35,6 +39,7 @@ impl Stop {
     pub fn number(self) -> u8
         ensures { result ≡ number_of self }
     {
+        // A table, and no discriminants: two stops may not share one, and the compiler would find what the contract has to.
         match self {
             Stop::Allowance => 20,
             Stop::PendingFull => 21,
@@ -49,5 +54,22 @@ impl Stop {
             Stop::BadWord => 30,
             Stop::FewCells => 31,
         }
+    }
+}
+
+// What lies outside a memory, no address of a run reaches.
+impl From<Outside> for Stop {
+    ghost from_gives = { λ _ stop. stop ≡ Address };
+
+    fn from(_outside: Outside) -> Stop {
+        Self::Address
+    }
+}
+
+impl From<Full> for Stop {
+    ghost from_gives = { λ _ stop. stop ≡ ReportFull };
+
+    fn from(_full: Full) -> Stop {
+        Self::ReportFull
     }
 }

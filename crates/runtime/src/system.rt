@@ -1,10 +1,27 @@
 // The three system calls: a number or a byte for the report, a fact about the push.
-ghost use Rattle.std.specs.Prelude.{◌≡◌};
+ghost use Rattle.std.specs.Prelude.{◌≡◌, ◌++◌, length, is_ok, if◌then◌else◌, nat_le};
 ghost use Rattle.runtime.specs.System.{byte_written, fact_told, Grew, number_written, Writes};
 
-use crate::host::{Facts, PushHost};
+use crate::host::{Facts, Full, PushHost};
 use crate::stop::Stop;
-use crate::text::{digit_count, put_digits};
+use itoa::Buffer;
+
+// Appends the bytes whole, or none of them.
+fn append<H: PushHost>(host: &mut H, bytes: &[u8]) -> Result<(), Full>
+    ensures answer { is_ok result ≡ nat_le (length bytes.now) (length (H.PushHost.spare host.old)) }
+    ensures after { H.PushHost.report host.new ≡ (if is_ok result then H.PushHost.report host.old ++ bytes.now else H.PushHost.report host.old) }
+    ensures spared { Grew H.PushHost.report H.PushHost.spare host.old host.new }
+    ensures facts { H.Facts.facts host.new ≡ H.Facts.facts host.old }
+    ensures place { H.PushHost.place host.new ≡ H.PushHost.place host.old }
+{
+    if host.space() < bytes.len() {
+        return Err(Full);
+    }
+    for byte in bytes {
+        let _ = host.put(*byte);
+    }
+    Ok(())
+}
 
 // Sys 1: the number in decimal, whole, or no byte of it.
 pub fn write_number<H: PushHost>(host: &mut H, value: i32) -> Result<i32, Stop>
@@ -13,19 +30,8 @@ pub fn write_number<H: PushHost>(host: &mut H, value: i32) -> Result<i32, Stop>
     ensures facts { H.Facts.facts host.new ≡ H.Facts.facts host.old }
     ensures place { H.PushHost.place host.new ≡ H.PushHost.place host.old }
 {
-    let digits = value.unsigned_abs();
-    if value < 0 {
-        if host.space() <= digit_count(digits) {
-            return Err(Stop::ReportFull);
-        }
-        let _ = host.put(b'-');
-        put_digits(host, digits);
-        return Ok(value);
-    }
-    if host.space() < digit_count(digits) {
-        return Err(Stop::ReportFull);
-    }
-    put_digits(host, digits);
+    let mut buffer = Buffer::new();
+    append(host, buffer.format(value).as_bytes())?;
     Ok(value)
 }
 
@@ -36,24 +42,17 @@ pub fn write_byte<H: PushHost>(host: &mut H, value: i32) -> Result<i32, Stop>
     ensures facts { H.Facts.facts host.new ≡ H.Facts.facts host.old }
     ensures place { H.PushHost.place host.new ≡ H.PushHost.place host.old }
 {
-    let Ok(byte) = u8::try_from(value) else {
-        return Err(Stop::NotByte);
-    };
-    match host.put(byte) {
-        Ok(()) => Ok(value),
-        Err(_) => Err(Stop::ReportFull),
-    }
+    let byte = u8::try_from(value).map_err(|_| Stop::NotByte)?;
+    host.put(byte)?;
+    Ok(value)
 }
 
 // Sys 3: the fact of that number. It needs facts alone, and no report.
 pub fn fact_at<F: Facts>(source: &F, number: i32) -> Result<i32, Stop>
     ensures { result ≡ fact_told (F.facts source.now) number }
 {
-    let Ok(k) = usize::try_from(number) else {
-        return Err(Stop::NoFact);
-    };
-    match source.fact(k) {
-        Some(v) => Ok(v),
-        None => Err(Stop::NoFact),
-    }
+    usize::try_from(number)
+        .ok()
+        .and_then(|k| source.fact(k))
+        .ok_or(Stop::NoFact)
 }
