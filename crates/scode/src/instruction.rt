@@ -2,13 +2,7 @@
 ghost use Rattle.std.specs.Prelude.{◌≡◌};
 ghost use Rattle.scode.specs.Instructions.{name_of};
 
-// What sys asks of the host.
-#[derive(Clone, Copy)]
-pub enum SystemCall {
-    Number = 1,
-    Byte = 2,
-    Fact = 3,
-}
+use crate::system_call::SystemCall;
 
 #[derive(Clone, Copy)]
 pub enum Instruction {

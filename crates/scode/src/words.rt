@@ -40,8 +40,8 @@ pub fn join(parts: Fields) -> Option<u32>
     ensures answer { result ≡ joined parts }
     ensures again { IfSome result (λ w. fields w ≡ parts) }
 {
-    if parts.argument < LEAST_ARGUMENT || parts.argument > MOST_ARGUMENT {
-        return None;
-    }
-    Some(parts.opcode as u32 | parts.argument.cast_unsigned() << 8)
+    let word = u32::from(parts.opcode) | parts.argument.cast_unsigned() << 8;
+    (LEAST_ARGUMENT..=MOST_ARGUMENT)
+        .contains(&parts.argument)
+        .then_some(word)
 }
