@@ -32,6 +32,7 @@ fn place_in(argument: i32) -> Option<u32>
     u32::try_from(argument).ok()
 }
 
+// Two numbers, as the instruction has them: a struct of them would be taken apart at once.
 fn is_head(formals: u8, variables: u8) -> bool
     ensures { result ≡ is_head formals variables }
 {
@@ -79,6 +80,8 @@ fn known(fields: Fields) -> Option<Instruction>
     }
 }
 
+// Not `From` and `TryFrom`: their one member would join the two facts that each call promises.
+#[tactic(auto, using(crate::proofs::Codes::encoded_decoded))]
 pub fn decode(word: u32) -> Instruction
     ensures answer { result ≡ decoded word }
     ensures again { encoded result ≡ Some word }

@@ -5,7 +5,7 @@ ghost use Rattle.scode.specs.Opcode.{NamesOpcode, number_of, unknown_opcode_text
 use std::error::Error;
 use std::fmt;
 
-#[derive(Clone, Copy, Debug, PartialEq, Eq)]
+#[derive(Clone, Copy)]
 pub enum Opcode {
     New = 5,
     Add = 6,
@@ -31,7 +31,7 @@ pub enum Opcode {
     Ret = 36,
 }
 
-/// A number that no opcode has.
+// A number that no opcode has.
 #[derive(Clone, Copy, Debug, PartialEq, Eq)]
 pub struct UnknownOpcode(pub u8);
 

@@ -5,14 +5,14 @@ ghost use Rattle.scode.specs.SystemCall.{NamesSystemCall, system_number, unknown
 use std::error::Error;
 use std::fmt;
 
-#[derive(Clone, Copy, Debug, PartialEq, Eq)]
+#[derive(Clone, Copy)]
 pub enum SystemCall {
     Number = 1,
     Byte = 2,
     Fact = 3,
 }
 
-/// A number that no system call has.
+// A number that no system call has.
 #[derive(Clone, Copy, Debug, PartialEq, Eq)]
 pub struct UnknownSystemCall(pub i32);
 
