@@ -1,2 +1,4 @@
 pub mod Instructions
+pub mod Opcode
+pub mod SystemCall
 pub mod Words

@@ -1,5 +1,6 @@
 -- How a word holds an opcode in its low 8 bits and a signed argument of 24 bits above them.
-use Rattle.std.specs.Prelude.{ℕ, ◌+◌, ◌-◌, ◌*◌, ◌/◌, ◌%◌, Bool, cond, ℤ, pos, negsuc, Some, None, Option, nat_lt}
+use Rattle.std.specs.Prelude.{ℕ, ◌+◌, ◌-◌, ◌*◌, ◌/◌, ◌%◌, Bool, cond, ℤ, pos, negsuc, Option, nat_lt}
+use Rattle.std.specs.Bool.{then_some}
 use Rattle.scode.specs.declared.words.Fields.{Fields}
 
 -- 24 bits with a sign
@@ -24,4 +25,4 @@ fields w = both (w % 256) (signed24 (w / 256))
 
 -- no word where the argument needs more than 24 bits
 abbrev pub joined : Fields → Option ℕ
-joined f = cond (fits24 f.argument) (Some (f.opcode + bits24 f.argument * 256)) None
+joined f = then_some (fits24 f.argument) (f.opcode + bits24 f.argument * 256)

@@ -1,106 +1,52 @@
 // Words and instructions, one from the other.
 ghost use Rattle.std.specs.Prelude.{◌≡◌, IfSome, Some};
-ghost use Rattle.scode.specs.Instructions.{bare, decoded, depth_in, distance_in, encoded, fields_of, fun_in, is_head, known_as, place_in, system_call, unknown_fields, with_depth, with_distance, with_head, with_place, zero_z};
-ghost use Rattle.scode.specs.Words.{both};
+ghost use Rattle.scode.specs.Instructions.{bare, count_argument, count_in, decoded, encoded, fields_of, fun_in, head_argument, is_head, known_as, place_argument, place_in, unknown_fields};
 
-use crate::instruction::{Instruction, SystemCall};
-use crate::opcodes::*;
-use crate::words::{Fields, join, split};
-
-// `Option::map` at a variant.
-macro_rules! mapped {
-    ($held:expr, $variant:path) => {
-        match $held {
-            Some(value) => Some($variant(value)),
-            None => None,
-        }
-    };
-}
+use crate::instruction::Instruction;
+use crate::opcode::Opcode;
+use crate::system_call::SystemCall;
+use crate::words::{Fields, MOST_ARGUMENT, join, split};
 
 // A function's formals are the first of its variables.
-const MOST_FORMALS: u32 = 15;
+const MOST_FORMALS: u8 = 15;
 
-const MOST_VARIABLES: u32 = 64;
+const MOST_VARIABLES: u8 = 64;
 
-// An argument has a sign, so addresses lie below this.
-const ADDRESSES: u32 = 0x80_0000;
-
-fn is_zero(argument: i32) -> bool
-    ensures { result ≡ zero_z argument }
-{
-    argument == 0
-}
-
-fn alone(argument: i32, instruction: Instruction) -> Option<Instruction>
+fn bare(argument: i32, instruction: Instruction) -> Option<Instruction>
     ensures { result ≡ bare argument instruction }
 {
-    if is_zero(argument) {
-        Some(instruction)
-    } else {
-        None
-    }
+    (argument == 0).then_some(instruction)
 }
 
-fn distance(argument: i32) -> Option<u8>
-    ensures { result ≡ distance_in argument }
+// How many variables: a distance is at least 1, and a return may drop none.
+fn count_in(least: u8, argument: i32) -> Option<u8>
+    ensures { result ≡ count_in least argument }
 {
-    match argument {
-        1..=64 => Some(argument as u8),
-        _ => None,
-    }
+    let count = u8::try_from(argument).ok()?;
+    (least..=MOST_VARIABLES).contains(&count).then_some(count)
 }
 
-fn depth(argument: i32) -> Option<u8>
-    ensures { result ≡ depth_in argument }
-{
-    match argument {
-        0..=64 => Some(argument as u8),
-        _ => None,
-    }
-}
-
-fn place(argument: i32) -> Option<u32>
+fn place_in(argument: i32) -> Option<u32>
     ensures { result ≡ place_in argument }
 {
-    if argument < 0 {
-        None
-    } else {
-        Some(argument as u32)
-    }
+    u32::try_from(argument).ok()
 }
 
-fn is_head(formals: u32, variables: u32) -> bool
+// Two numbers, as the instruction has them: a struct of them would be taken apart at once.
+fn is_head(formals: u8, variables: u8) -> bool
     ensures { result ≡ is_head formals variables }
 {
     formals <= MOST_FORMALS && variables <= MOST_VARIABLES && formals <= variables
 }
 
 // 256 times the formals, plus the variables.
-fn fun(argument: i32) -> Option<Instruction>
+fn fun_in(argument: i32) -> Option<Instruction>
     ensures { result ≡ fun_in argument }
 {
-    let packed = place(argument)?;
-    let formals = packed / 256;
-    let variables = packed % 256;
-    if is_head(formals, variables) {
-        Some(Instruction::Fun {
-            formals: formals as u8,
-            variables: variables as u8,
-        })
-    } else {
-        None
-    }
-}
-
-fn system_call(argument: i32) -> Option<SystemCall>
-    ensures { result ≡ system_call argument }
-{
-    match argument {
-        1 => Some(SystemCall::Number),
-        2 => Some(SystemCall::Byte),
-        3 => Some(SystemCall::Fact),
-        _ => None,
-    }
+    let packed = place_in(argument)?;
+    let formals = u8::try_from(packed / 256).ok()?;
+    let variables = (packed % 256) as u8;
+    is_head(formals, variables).then_some(Instruction::Fun { formals, variables })
 }
 
 // The instruction that the fields say, if a run could perform it.
@@ -108,127 +54,104 @@ fn known(fields: Fields) -> Option<Instruction>
     ensures { result ≡ known_as fields }
 {
     let argument = fields.argument;
-    match fields.opcode {
-        NEW => alone(argument, Instruction::New),
-        ADD => alone(argument, Instruction::Add),
-        SUB => alone(argument, Instruction::Sub),
-        EQ => alone(argument, Instruction::Eq),
-        LT => alone(argument, Instruction::Lt),
-        GT => alone(argument, Instruction::Gt),
-        CALL => mapped!(place(argument), Instruction::Call),
-        GET => mapped!(distance(argument), Instruction::Get),
-        PUT => mapped!(distance(argument), Instruction::Put),
-        LIT => Some(Instruction::Lit(argument)),
-        LDX => mapped!(distance(argument), Instruction::Ldx),
-        STX => mapped!(distance(argument), Instruction::Stx),
-        FUN => fun(argument),
-        SYS => mapped!(system_call(argument), Instruction::Sys),
-        LD => mapped!(place(argument), Instruction::Ld),
-        ST => mapped!(place(argument), Instruction::St),
-        LDY => mapped!(place(argument), Instruction::Ldy),
-        STY => mapped!(place(argument), Instruction::Sty),
-        JMP => Some(Instruction::Jmp(argument)),
-        JF => Some(Instruction::Jf(argument)),
-        POP => alone(argument, Instruction::Pop),
-        RET => mapped!(depth(argument), Instruction::Ret),
-        _ => None,
+    match Opcode::try_from(fields.opcode).ok()? {
+        Opcode::New => bare(argument, Instruction::New),
+        Opcode::Add => bare(argument, Instruction::Add),
+        Opcode::Sub => bare(argument, Instruction::Sub),
+        Opcode::Eq => bare(argument, Instruction::Eq),
+        Opcode::Lt => bare(argument, Instruction::Lt),
+        Opcode::Gt => bare(argument, Instruction::Gt),
+        Opcode::Call => place_in(argument).map(Instruction::Call),
+        Opcode::Get => count_in(1, argument).map(Instruction::Get),
+        Opcode::Put => count_in(1, argument).map(Instruction::Put),
+        Opcode::Lit => Some(Instruction::Lit(argument)),
+        Opcode::Ldx => count_in(1, argument).map(Instruction::Ldx),
+        Opcode::Stx => count_in(1, argument).map(Instruction::Stx),
+        Opcode::Fun => fun_in(argument),
+        Opcode::Sys => SystemCall::try_from(argument).ok().map(Instruction::Sys),
+        Opcode::Ld => place_in(argument).map(Instruction::Ld),
+        Opcode::St => place_in(argument).map(Instruction::St),
+        Opcode::Ldy => place_in(argument).map(Instruction::Ldy),
+        Opcode::Sty => place_in(argument).map(Instruction::Sty),
+        Opcode::Jmp => Some(Instruction::Jmp(argument)),
+        Opcode::Jf => Some(Instruction::Jf(argument)),
+        Opcode::Pop => bare(argument, Instruction::Pop),
+        Opcode::Ret => count_in(0, argument).map(Instruction::Ret),
     }
 }
 
+// Not `From` and `TryFrom`: their one member would join the two facts that each call promises.
+#[tactic(auto, using(crate::proofs::Codes::encoded_decoded))]
 pub fn decode(word: u32) -> Instruction
     ensures answer { result ≡ decoded word }
     ensures again { encoded result ≡ Some word }
 {
-    match known(split(word)) {
-        Some(instruction) => instruction,
-        None => Instruction::Bad(word),
-    }
+    known(split(word)).unwrap_or(Instruction::Bad(word))
 }
 
-fn with(opcode: u8, argument: i32) -> Option<Fields>
-    ensures { result ≡ Some (both opcode argument) }
+fn count_argument(least: u8, count: u8) -> Option<i32>
+    ensures { result ≡ count_argument least count }
 {
-    Some(Fields { opcode, argument })
+    (least..=MOST_VARIABLES)
+        .contains(&count)
+        .then_some(i32::from(count))
 }
 
-fn at_distance(opcode: u8, k: u8) -> Option<Fields>
-    ensures { result ≡ with_distance opcode k }
+fn place_argument(at: u32) -> Option<i32>
+    ensures { result ≡ place_argument at }
 {
-    match k {
-        1..=64 => with(opcode, i32::from(k)),
-        _ => None,
-    }
+    i32::try_from(at).ok().filter(|at| *at <= MOST_ARGUMENT)
 }
 
-fn at_place(opcode: u8, at: u32) -> Option<Fields>
-    ensures { result ≡ with_place opcode at }
+fn head_argument(formals: u8, variables: u8) -> Option<i32>
+    ensures { result ≡ head_argument formals variables }
 {
-    if at < ADDRESSES {
-        with(opcode, at as i32)
-    } else {
-        None
-    }
-}
-
-fn of_depth(opcode: u8, dropped: u8) -> Option<Fields>
-    ensures { result ≡ with_depth opcode dropped }
-{
-    if dropped <= 64 {
-        with(opcode, i32::from(dropped))
-    } else {
-        None
-    }
-}
-
-fn of_fun(opcode: u8, formals: u8, variables: u8) -> Option<Fields>
-    ensures { result ≡ with_head opcode formals variables }
-{
-    if is_head(u32::from(formals), u32::from(variables)) {
-        with(opcode, 256 * i32::from(formals) + i32::from(variables))
-    } else {
-        None
-    }
+    is_head(formals, variables).then_some(256 * i32::from(formals) + i32::from(variables))
 }
 
 // A word that says another instruction is not bad.
-fn of_bad(word: u32) -> Option<Fields>
+fn unknown_fields(word: u32) -> Option<Fields>
     ensures { result ≡ unknown_fields word }
 {
     let fields = split(word);
-    match known(fields) {
-        Some(_) => None,
-        None => Some(fields),
-    }
+    known(fields).is_none().then_some(fields)
 }
 
 fn fields_of(instruction: Instruction) -> Option<Fields>
     ensures { result ≡ fields_of instruction }
 {
-    match instruction {
-        Instruction::New => with(NEW, 0),
-        Instruction::Add => with(ADD, 0),
-        Instruction::Sub => with(SUB, 0),
-        Instruction::Eq => with(EQ, 0),
-        Instruction::Lt => with(LT, 0),
-        Instruction::Gt => with(GT, 0),
-        Instruction::Call(at) => at_place(CALL, at),
-        Instruction::Get(k) => at_distance(GET, k),
-        Instruction::Put(k) => at_distance(PUT, k),
-        Instruction::Lit(value) => with(LIT, value),
-        Instruction::Ldx(k) => at_distance(LDX, k),
-        Instruction::Stx(k) => at_distance(STX, k),
-        Instruction::Fun { formals, variables } => of_fun(FUN, formals, variables),
-        Instruction::Sys(call) => with(SYS, call as i32),
-        Instruction::Ld(at) => at_place(LD, at),
-        Instruction::St(at) => at_place(ST, at),
-        Instruction::Ldy(at) => at_place(LDY, at),
-        Instruction::Sty(at) => at_place(STY, at),
-        Instruction::Jmp(by) => with(JMP, by),
-        Instruction::Jf(by) => with(JF, by),
-        Instruction::Pop => with(POP, 0),
-        Instruction::Ret(dropped) => of_depth(RET, dropped),
-        Instruction::Bad(word) => of_bad(word),
-    }
+    let (opcode, argument) = match instruction {
+        Instruction::New => (Opcode::New, 0),
+        Instruction::Add => (Opcode::Add, 0),
+        Instruction::Sub => (Opcode::Sub, 0),
+        Instruction::Eq => (Opcode::Eq, 0),
+        Instruction::Lt => (Opcode::Lt, 0),
+        Instruction::Gt => (Opcode::Gt, 0),
+        Instruction::Call(at) => (Opcode::Call, place_argument(at)?),
+        Instruction::Get(k) => (Opcode::Get, count_argument(1, k)?),
+        Instruction::Put(k) => (Opcode::Put, count_argument(1, k)?),
+        Instruction::Lit(value) => (Opcode::Lit, value),
+        Instruction::Ldx(k) => (Opcode::Ldx, count_argument(1, k)?),
+        Instruction::Stx(k) => (Opcode::Stx, count_argument(1, k)?),
+        Instruction::Fun { formals, variables } => (
+            Opcode::Fun,
+            head_argument(formals, variables)?,
+        ),
+        Instruction::Sys(call) => (Opcode::Sys, i32::from(call)),
+        Instruction::Ld(at) => (Opcode::Ld, place_argument(at)?),
+        Instruction::St(at) => (Opcode::St, place_argument(at)?),
+        Instruction::Ldy(at) => (Opcode::Ldy, place_argument(at)?),
+        Instruction::Sty(at) => (Opcode::Sty, place_argument(at)?),
+        Instruction::Jmp(by) => (Opcode::Jmp, by),
+        Instruction::Jf(by) => (Opcode::Jf, by),
+        Instruction::Pop => (Opcode::Pop, 0),
+        Instruction::Ret(dropped) => (Opcode::Ret, count_argument(0, dropped)?),
+        Instruction::Bad(word) => return unknown_fields(word),
+    };
+    Some(Fields {
+        opcode: u8::from(opcode),
+        argument,
+    })
 }
 
 pub fn encode(instruction: Instruction) -> Option<u32>

@@ -2,14 +2,9 @@
 ghost use Rattle.std.specs.Prelude.{◌≡◌};
 ghost use Rattle.scode.specs.Instructions.{name_of};
 
-// What sys asks of the host.
-#[derive(Clone, Copy)]
-pub enum SystemCall {
-    Number = 1,
-    Byte = 2,
-    Fact = 3,
-}
+use crate::system_call::SystemCall;
 
+// Nothing compares instructions, and a proof that a derived `==` means `≡` met the check's limit.
 #[derive(Clone, Copy)]
 pub enum Instruction {
     New,
@@ -45,6 +40,7 @@ pub enum Instruction {
 }
 
 impl Instruction {
+    // Not `Display`: callers want the name as text, to put it in a column.
     pub fn mnemonic(&self) -> &'static str
         ensures { result.now ≡ name_of self.now }
     {

@@ -3,5 +3,6 @@
 
 pub mod code;
 pub mod instruction;
-pub mod opcodes;
+pub mod opcode;
+pub mod system_call;
 pub mod words;

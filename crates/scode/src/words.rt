@@ -1,6 +1,6 @@
 // A word of S-code: the opcode in the low 8 bits, above it a signed argument of 24 bits.
-ghost use Rattle.std.specs.Prelude.{◌≡◌, ◌/◌, ◌%◌, IfSome, Some};
-ghost use Rattle.scode.specs.Words.{fields, joined, signed24};
+ghost use Rattle.std.specs.Prelude.{◌≡◌, IfSome, Some};
+ghost use Rattle.scode.specs.Words.{fields, joined};
 
 #[derive(Clone, Copy)]
 pub struct Fields {
@@ -12,26 +12,15 @@ pub const LEAST_ARGUMENT: i32 = -0x80_0000;
 
 pub const MOST_ARGUMENT: i32 = 0x7f_ffff;
 
-fn opcode_of(word: u32) -> u8
-    ensures { result ≡ word % 256 }
-{
-    (word & 0xff) as u8
-}
-
+// Not `From` and `TryFrom`: their one member would join the two facts that each call promises.
 // The shift of a signed number brings the sign along.
-fn argument_of(word: u32) -> i32
-    ensures { result ≡ signed24 (word / 256) }
-{
-    word.cast_signed() >> 8
-}
-
 pub fn split(word: u32) -> Fields
     ensures answer { result ≡ fields word }
     ensures again { joined result ≡ Some word }
 {
     Fields {
-        opcode: opcode_of(word),
-        argument: argument_of(word),
+        opcode: (word & 0xff) as u8,
+        argument: word.cast_signed() >> 8,
     }
 }
 
@@ -40,8 +29,8 @@ pub fn join(parts: Fields) -> Option<u32>
     ensures answer { result ≡ joined parts }
     ensures again { IfSome result (λ w. fields w ≡ parts) }
 {
-    if parts.argument < LEAST_ARGUMENT || parts.argument > MOST_ARGUMENT {
-        return None;
-    }
-    Some(parts.opcode as u32 | parts.argument.cast_unsigned() << 8)
+    let word = u32::from(parts.opcode) | parts.argument.cast_unsigned() << 8;
+    (LEAST_ARGUMENT..=MOST_ARGUMENT)
+        .contains(&parts.argument)
+        .then_some(word)
 }
