@@ -74,7 +74,7 @@ pub struct PushRecord<'a> {
 }
 
 impl<'a> PushRecord<'a> {
-    ghost use Rattle.live_host.specs.Records.{body, facts_of, read, record_bytes, Sent};
+    ghost use Rattle.live_host.specs.Records.{body, facts_left, facts_of, read, record_bytes, Sent};
 
     // Takes the header apart; the facts stay where they are.
     #[tactic(auto, using(crate::proofs::Sent::sent, crate::proofs::Sent::read_again))]
@@ -102,6 +102,13 @@ impl<'a> PushRecord<'a> {
         Ok(PushRecord { numbers })
     }
 
+    // The facts in order.
+    pub fn facts(&self) -> RecordFacts<'a>
+        ensures { facts_left result ≡ facts_of self.now }
+    {
+        RecordFacts { left: self.numbers }
+    }
+
     // The record of a push of which nothing is known.
     pub(crate) fn none() -> PushRecord<'a>
         ensures { result.numbers.now ≡ [] }
@@ -122,5 +129,28 @@ impl Facts for PushRecord<'_> {
 
     fn fact(&self, k: usize) -> Option<i32> {
         cell_at(self.numbers, k)
+    }
+}
+
+// The facts of a record that are still to come.
+#[derive(Drop)]
+pub struct RecordFacts<'a> {
+    pub(crate) left: &'a [u8],
+}
+
+impl Iterator for RecordFacts<'_> {
+    ghost use Rattle.std.specs.Iterator.{item_count, YieldsFirst};
+    ghost use Rattle.live_host.specs.Records.{facts_left};
+
+    type Item = i32;
+
+    ghost next_gives = { YieldsFirst facts_left };
+
+    ghost remaining = { item_count facts_left };
+
+    fn next(&mut self) -> Option<i32> {
+        let (fact, left) = self.left.split_first_chunk()?;
+        self.left = left;
+        Some(i32::from_le_bytes(*fact))
     }
 }
