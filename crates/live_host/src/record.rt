@@ -86,7 +86,7 @@ impl<'a> PushRecord<'a> {
         if bytes.len() < HEADER_LEN {
             return Err(RecordFault::Short);
         }
-        let [b'P', b'S', b'H', low, high, count, numbers @ ..] = bytes else {
+        let [b'P', b'S', b'H', low, high, count, rest @ ..] = bytes else {
             return Err(RecordFault::Mark);
         };
         if u16::from_le_bytes([*low, *high]) != VERSION {
@@ -96,17 +96,21 @@ impl<'a> PushRecord<'a> {
         if count > MOST_FACTS {
             return Err(RecordFault::TooManyFacts);
         }
-        if numbers.len() != FACT_LEN * count {
+        if rest.len() != FACT_LEN * count {
             return Err(RecordFault::Length);
         }
-        Ok(PushRecord { numbers })
+        Ok(PushRecord { numbers: rest })
     }
 
     // The facts in order.
-    pub fn facts(&self) -> RecordFacts<'a>
-        ensures { facts_left result ≡ facts_of self.now }
+    #[tactic(auto, using(packing::proofs::Cells::length_cells))]
+    pub fn facts(&self) -> FactsLeft<'a>
+        ensures facts { facts_left result ≡ facts_of self.now }
+        ensures few { length (facts_left result) ≤ 64 }
     {
-        RecordFacts { left: self.numbers }
+        FactsLeft {
+            numbers: self.numbers,
+        }
     }
 
     // The record of a push of which nothing is known.
@@ -134,11 +138,11 @@ impl Facts for PushRecord<'_> {
 
 // The facts of a record that are still to come.
 #[derive(Drop)]
-pub struct RecordFacts<'a> {
-    pub(crate) left: &'a [u8],
+pub struct FactsLeft<'a> {
+    pub(crate) numbers: &'a [u8],
 }
 
-impl Iterator for RecordFacts<'_> {
+impl Iterator for FactsLeft<'_> {
     ghost use Rattle.std.specs.Iterator.{item_count, YieldsFirst};
     ghost use Rattle.live_host.specs.Records.{facts_left};
 
@@ -149,8 +153,8 @@ impl Iterator for RecordFacts<'_> {
     ghost remaining = { item_count facts_left };
 
     fn next(&mut self) -> Option<i32> {
-        let (fact, left) = self.left.split_first_chunk()?;
-        self.left = left;
+        let (fact, rest) = self.numbers.split_first_chunk()?;
+        self.numbers = rest;
         Some(i32::from_le_bytes(*fact))
     }
 }
