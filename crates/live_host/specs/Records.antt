@@ -5,6 +5,7 @@ use Rattle.std.proofs.Common.{of_z}
 use Rattle.std.specs.List.{AllByRecursion}
 use Rattle.packing.specs.Packing.{cells_of, words_bytes}
 use Rattle.live_host.specs.declared.record.PushRecord.{PushRecord}
+use Rattle.live_host.specs.declared.record.FactsLeft.{FactsLeft}
 use Rattle.live_host.specs.declared.record.RecordFault.{RecordFault}
 use Rattle.live_host.specs.declared.record.RecordFault.TheVariants.{Short, Mark, Version, TooManyFacts, Length}
 
@@ -48,6 +49,10 @@ record_bytes facts = 80 ∷ 83 ∷ 72 ∷ 1 ∷ 0 ∷ length facts ∷ words_byt
 -- the facts of a record that was read
 abbrev pub facts_of : PushRecord → List ℤ
 facts_of r = cells_of r.numbers.now
+
+-- the facts of a record that are still to come
+abbrev pub facts_left : FactsLeft → List ℤ
+facts_left r = cells_of r.numbers.now
 
 -- a refused record has no facts
 abbrev pub facts_or_none : Result (List ℕ) RecordFault → List ℤ

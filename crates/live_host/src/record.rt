@@ -74,7 +74,7 @@ pub struct PushRecord<'a> {
 }
 
 impl<'a> PushRecord<'a> {
-    ghost use Rattle.live_host.specs.Records.{body, facts_of, read, record_bytes, Sent};
+    ghost use Rattle.live_host.specs.Records.{body, facts_left, facts_of, read, record_bytes, Sent};
 
     // Takes the header apart; the facts stay where they are.
     #[tactic(auto, using(crate::proofs::Sent::sent, crate::proofs::Sent::read_again))]
@@ -86,7 +86,7 @@ impl<'a> PushRecord<'a> {
         if bytes.len() < HEADER_LEN {
             return Err(RecordFault::Short);
         }
-        let [b'P', b'S', b'H', low, high, count, numbers @ ..] = bytes else {
+        let [b'P', b'S', b'H', low, high, count, rest @ ..] = bytes else {
             return Err(RecordFault::Mark);
         };
         if u16::from_le_bytes([*low, *high]) != VERSION {
@@ -96,10 +96,21 @@ impl<'a> PushRecord<'a> {
         if count > MOST_FACTS {
             return Err(RecordFault::TooManyFacts);
         }
-        if numbers.len() != FACT_LEN * count {
+        if rest.len() != FACT_LEN * count {
             return Err(RecordFault::Length);
         }
-        Ok(PushRecord { numbers })
+        Ok(PushRecord { numbers: rest })
+    }
+
+    // The facts in order.
+    #[tactic(auto, using(packing::proofs::Cells::length_cells))]
+    pub fn facts(&self) -> FactsLeft<'a>
+        ensures facts { facts_left result ≡ facts_of self.now }
+        ensures few { length (facts_left result) ≤ 64 }
+    {
+        FactsLeft {
+            numbers: self.numbers,
+        }
     }
 
     // The record of a push of which nothing is known.
@@ -122,5 +133,28 @@ impl Facts for PushRecord<'_> {
 
     fn fact(&self, k: usize) -> Option<i32> {
         cell_at(self.numbers, k)
+    }
+}
+
+// The facts of a record that are still to come.
+#[derive(Drop)]
+pub struct FactsLeft<'a> {
+    pub(crate) numbers: &'a [u8],
+}
+
+impl Iterator for FactsLeft<'_> {
+    ghost use Rattle.std.specs.Iterator.{item_count, YieldsFirst};
+    ghost use Rattle.live_host.specs.Records.{facts_left};
+
+    type Item = i32;
+
+    ghost next_gives = { YieldsFirst facts_left };
+
+    ghost remaining = { item_count facts_left };
+
+    fn next(&mut self) -> Option<i32> {
+        let (fact, rest) = self.numbers.split_first_chunk()?;
+        self.numbers = rest;
+        Some(i32::from_le_bytes(*fact))
     }
 }
