@@ -1,4 +1,6 @@
 mod Numbers
+mod Found
+mod Heads
 mod Steps
 mod Modes
 mod Places
@@ -11,3 +13,4 @@ pub mod Gaps
 pub mod Ascents
 pub mod Rises
 pub mod Firsts
+mod Scanned
