@@ -1,2 +1,2 @@
 mod Below
-mod Firsts
+pub mod Standings

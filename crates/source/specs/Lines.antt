@@ -1,5 +1,5 @@
 -- Lines and columns.
-use Rattle.std.specs.Prelude.{ℕ, ◌+◌, ◌-◌, min, Bool, not, List, length, take, drop, reverse, count_by, take_while, ◌==◌}
+use Rattle.std.specs.Prelude.{ℕ, ◌+◌, ◌-◌, min, not, List, length, take, drop, reverse, count_by, take_while, ◌==◌}
 use Rattle.source.specs.declared.location.Location.{Location}
 
 -- how many line feeds there are

@@ -7,6 +7,17 @@ ghost use Rattle.source.specs.Cuts.{cut, first_text};
 use scanner::scanner::Scanner;
 use scanner::token::Token;
 
+// Where the next token stands.
+#[derive(Clone, Copy)]
+enum Standing {
+    // nothing came yet
+    First,
+    // behind words that belong to no form
+    Stray,
+    // so many parentheses are open
+    Inside(usize),
+}
+
 // Where the text of the first definition ends: behind the parenthesis that closes it, or before a form that
 // follows words that belong to none, or at the end of the file.
 fn first_end(text: &[u8]) -> usize
@@ -14,24 +25,17 @@ fn first_end(text: &[u8]) -> usize
     ensures within { result ≤ length text.now }
 {
     let mut scanner = Scanner::new(text);
-    let mut open = 0usize;
-    let mut stray = false;
+    let mut standing = Standing::First;
     while let Some(token) = scanner.token() {
-        match token {
-            Token::Open(place) => {
-                if open == 0 && stray {
-                    return place;
-                }
-                open += 1;
-            }
-            Token::Close(place) => {
-                if open <= 1 {
-                    return place + 1;
-                }
-                open -= 1;
-            }
-            Token::Name(_) | Token::Number(..) => stray = stray || open == 0,
-        }
+        standing = match (standing, token) {
+            (Standing::First, Token::Open(_)) => Standing::Inside(1),
+            (Standing::Stray, Token::Open(place)) => return place,
+            (Standing::Inside(open), Token::Open(_)) => Standing::Inside(open + 1),
+            (Standing::Inside(open), Token::Close(_)) if open > 1 => Standing::Inside(open - 1),
+            (_, Token::Close(place)) => return place + 1,
+            (Standing::Inside(open), Token::Name(_) | Token::Number(..)) => Standing::Inside(open),
+            _ => Standing::Stray,
+        };
     }
     text.len()
 }
@@ -41,10 +45,7 @@ pub fn text_at(file: &[u8], place: usize) -> Option<&[u8]>
     ensures answer { option_map (λ x. x.now) result ≡ first_text (drop place file.now) }
     ensures within { IfSome result (λ text. (0 < length text.now) × (place + length text.now ≤ length file.now)) }
 {
-    if place >= file.len() {
-        return None;
-    }
-    let rest = &file[place..];
-    let end = first_end(rest).max(1);
-    Some(&rest[0..end])
+    let rest = file.get(place..)?;
+    // an empty rest has not even one byte
+    rest.get(..first_end(rest).max(1))
 }
