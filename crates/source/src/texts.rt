@@ -2,7 +2,9 @@
 ghost use Rattle.std.specs.Prelude.{◌≡◌, ℕ, ◌+◌, ◌-◌, ◌<◌, ◌≤◌, false, length, drop, IfSome};
 ghost use Rattle.std.specs.Option.{option_map};
 ghost use Rattle.scanner.specs.Scans.{ahead, lexemes_of};
+ghost use Rattle.std.specs.Iterator.{at_most};
 ghost use Rattle.source.specs.Cuts.{cut, first_text};
+ghost use Rattle.source.specs.Texts.{TakesText};
 
 use scanner::scanner::Scanner;
 use scanner::token::Token;
@@ -48,4 +50,42 @@ pub fn text_at(file: &[u8], place: usize) -> Option<&[u8]>
     let rest = file.get(place..)?;
     // an empty rest has not even one byte
     rest.get(..first_end(rest).max(1))
+}
+
+// The text of a definition, and the place of the file at which it begins.
+#[derive(Clone, Copy)]
+pub struct Text<'a> {
+    pub bytes: &'a [u8],
+    pub place: usize,
+}
+
+// The texts of a file from this place on.
+#[derive(Clone, Copy)]
+pub struct Texts<'a> {
+    pub file: &'a [u8],
+    pub place: usize,
+}
+
+impl<'a> Texts<'a> {
+    pub fn of(file: &'a [u8]) -> Texts<'a>
+        ensures file { result.file.now ≡ file.now }
+        ensures place { result.place ≡ 0 }
+    {
+        Texts { file, place: 0 }
+    }
+}
+
+impl<'a> Iterator for Texts<'a> {
+    type Item = Text<'a>;
+
+    ghost next_gives = { TakesText };
+
+    ghost remaining = { λ s. at_most (length s.file.now - s.place) };
+
+    fn next(&mut self) -> Option<Text<'a>> {
+        let place = self.place;
+        let bytes = text_at(self.file, place)?;
+        self.place += bytes.len();
+        Some(Text { bytes, place })
+    }
 }
