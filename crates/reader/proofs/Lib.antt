@@ -1,3 +1,4 @@
+pub mod Words
 mod Lists
 mod Functions
 pub mod Nested

@@ -24,4 +24,4 @@ returns c =
     let is : all ≡ name w c.in-Some-Name.head.place ∷ rest = search rules in
     c.takes.ensures
     ∙ head_fits w c.in-Some-Name.head.place rest all c.in-Some.shape c.leading_of.result c.args.number
-    is (c.in-Some.ensures ∙ ap shape c.of.ensures) c.leading_of.ensures c.requires
+    is (c.in-Some.ensures ∙ ap shape c.of.ensures.answer) c.leading_of.ensures c.requires
