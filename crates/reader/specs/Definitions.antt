@@ -199,7 +199,8 @@ abbrev pub shown : Result Definition FormFault → Result Defined FormFault
 shown (Ok d) = Ok (shown_definition d)
 shown (Err f) = Err f
 
--- r is the first of the names, and `rest` are the others
-abbrev pub Taken : List Named → Option Word → List Named → Type 0
-Taken ns None rest = (ns ≡ []) × (rest ≡ [])
-Taken ns (Some w) rest = ns ≡ word_of w ∷ rest
+-- the word with which the form of a definition begins
+abbrev pub keyword_of : Definition → Keyword
+keyword_of (Function f) = Def
+keyword_of (Global w) = Let
+keyword_of (Enumeration e) = Enum
