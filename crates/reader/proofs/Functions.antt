@@ -1,8 +1,9 @@
 -- A function from the tokens of its parts.
 use Rattle.std.proofs.Common.{◌≡◌, ℕ, Bool, true, false, cond, eqb, List, [], ◌∷◌, ◌++◌, map, Some, None, Option, sym, refl, ap, ◌∙◌, arith}
+use Rattle.std.specs.Option.{option_or}
 use Rattle.scanner.specs.Words.{Lexeme, opens, name}
 use Rattle.reader.specs.Definitions.{function, a_name, names_in, unless, formals_fit, locals_fit, function_faults, function_defined}
-use Rattle.reader.specs.Forms.{Forest, none, named, numbered, form, grow, out, count, fits, misfits, misfit, or, survey}
+use Rattle.reader.specs.Forms.{Forest, none, named, numbered, form, grow, out, count, fits, misfits, misfit, survey}
 use Rattle.reader.specs.Nests.{first_of}
 use Rattle.reader.specs.Parts.{listed, found_faults}
 use Rattle.reader.specs.declared.elements.Survey.{Survey}
@@ -33,11 +34,11 @@ map_append [] ys = refl
 map_append (x ∷ xs) ys = ap (λ l. NoShape x ∷ l) (map_append xs ys)
 
 module _ {X : Type 0} (x : X) where
-  listed_or : (o u : Option ℕ) (gs : List FormFault) → first_of gs x ≡ first_of (listed u) x → first_of (listed o ++ gs) x ≡ first_of (listed (or o u)) x
+  listed_or : (o u : Option ℕ) (gs : List FormFault) → first_of gs x ≡ first_of (listed u) x → first_of (listed o ++ gs) x ≡ first_of (listed (option_or o u)) x
   listed_or None u gs e = e
   listed_or (Some p) u gs e = refl
 
-  both_misfits : (p : ℕ) (f rest : Forest) (b : Bool) → first_of (map NoShape (misfits f)) x ≡ first_of (listed (misfit f)) x → first_of (map NoShape (misfits rest)) x ≡ first_of (listed (misfit rest)) x → first_of (map NoShape (cond b (misfits f) (p ∷ [])) ++ map NoShape (misfits rest)) x ≡ first_of (listed (or (cond b (misfit f) (Some p)) (misfit rest))) x
+  both_misfits : (p : ℕ) (f rest : Forest) (b : Bool) → first_of (map NoShape (misfits f)) x ≡ first_of (listed (misfit f)) x → first_of (map NoShape (misfits rest)) x ≡ first_of (listed (misfit rest)) x → first_of (map NoShape (cond b (misfits f) (p ∷ [])) ++ map NoShape (misfits rest)) x ≡ first_of (listed (option_or (cond b (misfit f) (Some p)) (misfit rest))) x
   both_misfits p f rest true inner outer =
       first_same (map NoShape (misfits f)) (listed (misfit f)) (map NoShape (misfits rest)) x inner
       ∙ listed_or (misfit f) (misfit rest) (map NoShape (misfits rest)) outer

@@ -1,7 +1,7 @@
 // The expression reader and the element-list reader, which call each other.
 ghost use Rattle.std.specs.Prelude.{◌≡◌, ℕ, ◌+◌, ◌-◌, ◌*◌, ◌<◌, ◌≤◌, true, ◌∷◌, length};
 ghost use Rattle.scanner.specs.Scans.{ahead, lexeme};
-ghost use Rattle.reader.specs.Forms.{begins, behind, both, count, fits, grow, leading, or, out, Readable, survey, survey_first};
+ghost use Rattle.reader.specs.Forms.{begins, behind, both, count, fits, grow, leading, of_one, out, Readable, survey, survey_first};
 
 use crate::keyword::Keyword;
 use crate::shape::{Leading, shape_of};
@@ -16,15 +16,6 @@ pub(crate) struct Survey {
     pub(crate) misfit: Option<usize>,
 }
 
-fn earlier(first: Option<usize>, second: Option<usize>) -> Option<usize>
-    ensures { result ≡ or first second }
-{
-    match first {
-        None => second,
-        found => found,
-    }
-}
-
 impl Survey {
     const NOTHING: Survey = Survey {
         count: 0,
@@ -32,17 +23,16 @@ impl Survey {
         misfit: None,
     };
 
-    const NAME: Survey = Survey {
-        count: 1,
-        only_names: true,
-        misfit: None,
-    };
-
-    const NUMBER: Survey = Survey {
-        count: 1,
-        only_names: false,
-        misfit: None,
-    };
+    // Of one element.
+    fn of_one(is_name: bool, misfit: Option<usize>) -> Survey
+        ensures { result ≡ of_one is_name misfit }
+    {
+        Survey {
+            count: 1,
+            only_names: is_name,
+            misfit,
+        }
+    }
 
     // This, and then `next`.
     fn and(self, next: Survey) -> Survey
@@ -51,12 +41,8 @@ impl Survey {
     {
         Survey {
             count: self.count + next.count,
-            only_names: if self.only_names {
-                next.only_names
-            } else {
-                false
-            },
-            misfit: earlier(self.misfit, next.misfit),
+            only_names: self.only_names && next.only_names,
+            misfit: self.misfit.or(next.misfit),
         }
     }
 }
@@ -83,10 +69,8 @@ fn has_shape(elements: &Scanner, number: usize) -> bool
     let Some(Token::Name(head)) = scanner.token() else {
         return false;
     };
-    let Some(shape) = shape_of(Keyword::of(head.bytes)) else {
-        return false;
-    };
-    shape.takes(leading_of(&scanner), number - 1)
+    let leading = leading_of(&scanner);
+    shape_of(Keyword::of(head.bytes)).is_some_and(|shape| shape.takes(leading, number - 1))
 }
 
 // Reads the elements of a list up to its closing parenthesis, of which `room` may be opened.
@@ -98,8 +82,8 @@ pub(crate) fn elements(scanner: &mut Scanner, room: u32) -> Survey
 {
     let mut found = Survey::NOTHING;
     while let Some(token) = scanner.token() {
-        if let Token::Close(_) = token {
-            return found;
+        if matches!(token, Token::Close(_)) {
+            break;
         }
         found = found.and(expression(scanner, token, room));
     }
@@ -115,18 +99,14 @@ pub(crate) fn expression(scanner: &mut Scanner, token: Token, room: u32) -> Surv
     ensures past { grow (ahead scanner.new) ≡ behind (grow (lexeme token.entry ∷ ahead scanner.old)) }
 {
     match token {
-        Token::Name(_) => Survey::NAME,
-        Token::Number(..) => Survey::NUMBER,
+        Token::Name(_) => Survey::of_one(true, None),
+        Token::Number(..) => Survey::of_one(false, None),
         Token::Close(_) => Survey::NOTHING,
         Token::Open(place) => {
             let start = *scanner;
             let inside = elements(scanner, room - 1);
             let fits = has_shape(&start, inside.count);
-            Survey {
-                count: 1,
-                only_names: false,
-                misfit: if fits { inside.misfit } else { Some(place) },
-            }
+            Survey::of_one(false, if fits { inside.misfit } else { Some(place) })
         }
     }
 }
