@@ -26,21 +26,16 @@ impl Nesting {
     {
         match (self, token) {
             (Nesting::Before, Token::Open(_)) => Ok(Nesting::Inside(1)),
-            (Nesting::Inside(open), Token::Open(place)) => {
-                if open >= DEEPEST {
-                    return Err(FormFault::TooDeep(place));
-                }
-                Ok(Nesting::Inside(open + 1))
+            (Nesting::Inside(open), Token::Open(place)) if open >= DEEPEST => {
+                Err(FormFault::TooDeep(place))
             }
-            (Nesting::Inside(open), Token::Close(_)) => {
-                if open <= 1 {
-                    return Ok(Nesting::After);
-                }
-                Ok(Nesting::Inside(open - 1))
-            }
+            (Nesting::Inside(open), Token::Open(_)) => Ok(Nesting::Inside(open + 1)),
+            (Nesting::Inside(open), Token::Close(_)) if open <= 1 => Ok(Nesting::After),
+            (Nesting::Inside(open), Token::Close(_)) => Ok(Nesting::Inside(open - 1)),
             (Nesting::Inside(_), Token::Name(_) | Token::Number(..)) => Ok(self),
-            (Nesting::After, Token::Open(place)) => Err(FormFault::NotOneForm(place)),
-            (_, Token::Close(place)) => Err(FormFault::NotOneForm(place)),
+            (Nesting::After, Token::Open(place)) | (_, Token::Close(place)) => {
+                Err(FormFault::NotOneForm(place))
+            }
             (_, Token::Name(word) | Token::Number(word, _)) => {
                 Err(FormFault::NotOneForm(word.place))
             }
