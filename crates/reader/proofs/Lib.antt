@@ -1,6 +1,6 @@
 pub mod Words
+pub mod Misfits
 mod Lists
-mod Functions
 pub mod Nested
 pub mod Order
 pub mod Whole

@@ -25,11 +25,11 @@ returns-in_err-nest c =
       spacing = spacing_is_free c.args.text.now;
     }
 
-pub read_form-requires : goal.read_form-requires
-read_form-requires c =
+pub invariant_of-definition : goal.invariant_of-definition
+invariant_of-definition c =
     let text = c.args.text.now in
     let begins : ahead c.new-scanner.result ≡ opens c.in-Some-Open.place ∷ ahead c.token.new.self = search rules in
-    readable text c.in_ok-scan.ensures.answer c.in_ok-nest.ensures c.in-Some-Open.place (ahead c.token.new.self) (sym (ap lexemes c.new-scanner.ensures) ∙ begins)
+    record { readable = readable text c.in_ok-scan.ensures.answer c.in_ok-nest.ensures c.in-Some-Open.place (ahead c.token.new.self) (sym (ap lexemes c.new-scanner.ensures) ∙ begins) }
 
 pub returns : goal.returns
 returns c =
@@ -37,7 +37,7 @@ returns c =
     let begins : ahead c.new-scanner.result ≡ opens c.in-Some-Open.place ∷ ahead c.token.new.self = search rules in
     record {
       answer =
-          c.read_form.ensures
+          c.definition.ensures
           ∙ sym (past_nest text c.in_ok-scan.ensures.answer c.in_ok-nest.ensures c.in-Some-Open.place (ahead c.token.new.self) (sym (ap lexemes c.new-scanner.ensures) ∙ begins));
       spelling = nothing_is_lost text;
       spacing = spacing_is_free text;
