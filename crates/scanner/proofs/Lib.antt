@@ -1,4 +1,6 @@
 mod Numbers
+mod Found
+mod Heads
 mod Steps
 mod Modes
 mod Places

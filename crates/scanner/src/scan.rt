@@ -11,9 +11,8 @@ use crate::scanner::Scanner;
 fn scan_tokens(text: &[u8]) -> Result<(), ScanFault>
     ensures { result ≡ sound (items_of text.now) }
 {
-    let mut scanner = Scanner::new(text);
-    while let Some(read) = scanner.next() {
-        let _ = read?;
+    for read in Scanner::new(text) {
+        read?;
     }
     Ok(())
 }

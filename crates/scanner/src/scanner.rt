@@ -1,26 +1,38 @@
 // The scanner: one token after another, or what is wrong in its place.
-ghost use Rattle.std.specs.Prelude.{◌≡◌, ℕ, ◌+◌, ◌-◌, ◌<◌, ◌≤◌, length};
-ghost use Rattle.scanner.specs.Scans.{ahead, Given, items_of, left, Next};
+ghost use Rattle.std.specs.Prelude.{◌≡◌, ℕ, ◌+◌, ◌<◌, ◌≤◌, length, drop};
+ghost use Rattle.std.specs.Iterator.{YieldsFirstBy, item_count};
+ghost use Rattle.std.specs.List.{prefix_len};
+ghost use Rattle.scanner.specs.Bytes.{is_letter};
+ghost use Rattle.scanner.specs.Scans.{ahead, items_of, left, Next, seen};
 
 use crate::class::{Class, class_of};
 use crate::fault::ScanFault;
 use crate::number::token_of;
 use crate::token::{Token, Word};
 
-// It is its text and how far it has come. To look ahead, copy it.
+// Where the scanner stands between two of its answers. A word is taken whole.
+#[derive(Clone, Copy)]
+enum State {
+    Between,
+    InComment,
+}
+
+// It is its text, how far it has come and where it stands. To look ahead, copy it.
 #[derive(Clone, Copy)]
 pub struct Scanner<'a> {
     text: &'a [u8],
     at: usize,
-    in_comment: bool,
+    state: State,
 }
 
-#[derive(Clone, Copy)]
-enum State {
-    Between,
-    // since this place
-    InWord(usize),
-    InComment,
+// The length of the word at the front.
+fn word_length(bytes: &[u8]) -> usize
+    ensures { result ≡ prefix_len is_letter bytes.now }
+{
+    bytes
+        .iter()
+        .take_while(|byte| class_of(**byte) == Class::Letter)
+        .count()
 }
 
 impl<'a> Scanner<'a> {
@@ -30,63 +42,7 @@ impl<'a> Scanner<'a> {
         Scanner {
             text,
             at: 0,
-            in_comment: false,
-        }
-    }
-
-    pub fn next(&mut self) -> Option<Result<Token<'a>, ScanFault>>
-        ensures { Given (left self.old) result (left self.new) }
-    {
-        let text = self.text;
-        let mut state = if self.in_comment {
-            State::InComment
-        } else {
-            State::Between
-        };
-        for here in self.at..text.len() {
-            match (state, class_of(text[here])) {
-                (State::InComment, Class::LineFeed) => state = State::Between,
-                (State::InComment, Class::Foreign) => {
-                    self.at = here + 1;
-                    self.in_comment = true;
-                    return Some(Err(ScanFault::ForeignByte(here)));
-                }
-                (State::InComment, _) => {}
-                (State::InWord(_), Class::Letter) => {}
-                (State::InWord(place), _) => {
-                    self.at = here;
-                    self.in_comment = false;
-                    let bytes = &text[place..here];
-                    return Some(token_of(Word { bytes, place }));
-                }
-                (State::Between, Class::Blank | Class::LineFeed) => {}
-                (State::Between, Class::Semicolon) => state = State::InComment,
-                (State::Between, Class::Letter) => state = State::InWord(here),
-                (State::Between, Class::Open) => {
-                    self.at = here + 1;
-                    self.in_comment = false;
-                    return Some(Ok(Token::Open(here)));
-                }
-                (State::Between, Class::Close) => {
-                    self.at = here + 1;
-                    self.in_comment = false;
-                    return Some(Ok(Token::Close(here)));
-                }
-                (State::Between, Class::Foreign) => {
-                    self.at = here + 1;
-                    self.in_comment = false;
-                    return Some(Err(ScanFault::ForeignByte(here)));
-                }
-            }
-        }
-        self.at = text.len();
-        self.in_comment = false;
-        match state {
-            State::InWord(place) => {
-                let bytes = &text[place..text.len()];
-                Some(token_of(Word { bytes, place }))
-            }
-            _ => None,
+            state: State::Between,
         }
     }
 
@@ -94,9 +50,34 @@ impl<'a> Scanner<'a> {
     pub fn token(&mut self) -> Option<Token<'a>>
         ensures { Next (ahead self.old) result (ahead self.new) }
     {
-        while let Some(read) = self.next() {
-            if let Ok(token) = read {
-                return Some(token);
+        self.find_map(Result::ok)
+    }
+}
+
+impl<'a> Iterator for Scanner<'a> {
+    type Item = Result<Token<'a>, ScanFault>;
+
+    ghost next_gives = { YieldsFirstBy seen left };
+
+    ghost remaining = { item_count left };
+
+    fn next(&mut self) -> Option<Result<Token<'a>, ScanFault>> {
+        for &byte in self.text.get(self.at..)? {
+            let place = self.at;
+            self.at += 1;
+            match (self.state, class_of(byte)) {
+                (_, Class::Foreign) => return Some(Err(ScanFault::ForeignByte(place))),
+                (State::InComment, Class::LineFeed) => self.state = State::Between,
+                (State::InComment, _) => {}
+                (State::Between, Class::Blank | Class::LineFeed) => {}
+                (State::Between, Class::Semicolon) => self.state = State::InComment,
+                (State::Between, Class::Letter) => {
+                    self.at = place + word_length(&self.text[place..]);
+                    let bytes = &self.text[place..self.at];
+                    return Some(token_of(Word { bytes, place }));
+                }
+                (State::Between, Class::Open) => return Some(Ok(Token::Open(place))),
+                (State::Between, Class::Close) => return Some(Ok(Token::Close(place))),
             }
         }
         None
