@@ -1,6 +1,9 @@
 -- The forms that the tokens of a text make.
 use Rattle.std.specs.Prelude.{ℕ, ◌+◌, ◌≤◌, max, Bool, true, false, cond, ◌&&◌, List, [], ◌∷◌, ◌++◌, ℤ, Some, None, Option}
 use Rattle.std.specs.Option.{option_or}
+use Rattle.scanner.specs.Scans.{ahead, lexeme}
+use Rattle.scanner.specs.declared.scanner.Scanner.{Scanner}
+use Rattle.scanner.specs.declared.token.Token.{Token}
 use Rattle.scanner.specs.Words.{Lexeme, opens, closes, name, number}
 use Rattle.reader.specs.Keywords.{keyword}
 use Rattle.reader.specs.Shapes.{shape, takes}
@@ -39,6 +42,17 @@ grow (opens p ∷ ls) = record { here = form p (grow ls).here (out (grow ls)).he
 grow (closes p ∷ ls) = record { here = none; around = (grow ls).here ∷ (grow ls).around }
 grow (name w p ∷ ls) = record { here = named w p (grow ls).here; around = (grow ls).around }
 grow (number w v p ∷ ls) = record { here = numbered w v p (grow ls).here; around = (grow ls).around }
+
+-- what the tokens that a scanner has still to give make, and their elements
+abbrev pub pile_ahead : Scanner → Pile
+pile_ahead s = grow (ahead s)
+
+abbrev pub forest_ahead : Scanner → Forest
+forest_ahead s = (pile_ahead s).here
+
+-- the same from a token on that was taken from it
+abbrev pub pile_from : Token → Scanner → Pile
+pile_from t s = grow (lexeme t ∷ ahead s)
 
 abbrev pub tail : Forest → Forest
 tail none = none

@@ -1,7 +1,7 @@
 // The expression reader and the element-list reader, which call each other.
 ghost use Rattle.std.specs.Prelude.{◌≡◌, ℕ, ◌+◌, ◌-◌, ◌*◌, ◌<◌, ◌≤◌, true, ◌∷◌, length};
-ghost use Rattle.scanner.specs.Scans.{ahead, lexeme};
-ghost use Rattle.reader.specs.Forms.{begins, behind, both, count, fits, grow, leading, of_one, out, Readable, survey, survey_first};
+ghost use Rattle.scanner.specs.Scans.{lexeme};
+ghost use Rattle.reader.specs.Forms.{begins, behind, both, count, fits, forest_ahead, leading, of_one, out, pile_ahead, pile_from, Readable, survey, survey_first};
 
 use crate::keyword::Keyword;
 use crate::shape::{Leading, shape_of};
@@ -49,7 +49,7 @@ impl Survey {
 
 // What stands next in a list.
 fn leading_of(scanner: &Scanner) -> Leading
-    ensures { result ≡ leading (grow (ahead scanner.now)).here }
+    ensures { result ≡ leading (forest_ahead scanner.now) }
 {
     let mut scanner = *scanner;
     match scanner.token() {
@@ -62,8 +62,8 @@ fn leading_of(scanner: &Scanner) -> Leading
 
 // Whether the elements of a form, of which there are so many, make an expression.
 fn has_shape(elements: &Scanner, number: usize) -> bool
-    requires { number ≡ count (grow (ahead elements.now)).here }
-    ensures { result ≡ fits (grow (ahead elements.now)).here }
+    requires { number ≡ count (forest_ahead elements.now) }
+    ensures { result ≡ fits (forest_ahead elements.now) }
 {
     let mut scanner = *elements;
     let Some(Token::Name(head)) = scanner.token() else {
@@ -76,9 +76,9 @@ fn has_shape(elements: &Scanner, number: usize) -> bool
 // Reads the elements of a list up to its closing parenthesis, of which `room` may be opened.
 #[cycle(elements_expression)]
 pub(crate) fn elements(scanner: &mut Scanner, room: u32) -> Survey
-    requires { Readable room (grow (ahead scanner.old)).here }
-    ensures found { result ≡ survey (grow (ahead scanner.old)).here }
-    ensures past { grow (ahead scanner.new) ≡ out (grow (ahead scanner.old)) }
+    requires { Readable room (forest_ahead scanner.old) }
+    ensures found { result ≡ survey (forest_ahead scanner.old) }
+    ensures past { pile_ahead scanner.new ≡ out (pile_ahead scanner.old) }
 {
     let mut found = Survey::NOTHING;
     while let Some(token) = scanner.token() {
@@ -94,9 +94,9 @@ pub(crate) fn elements(scanner: &mut Scanner, room: u32) -> Survey
 #[cycle(elements_expression)]
 pub(crate) fn expression(scanner: &mut Scanner, token: Token, room: u32) -> Survey
     requires begins { begins (lexeme token) ≡ true }
-    requires readable { Readable room (grow (lexeme token ∷ ahead scanner.old)).here }
-    ensures found { result ≡ survey_first (grow (lexeme token.entry ∷ ahead scanner.old)).here }
-    ensures past { grow (ahead scanner.new) ≡ behind (grow (lexeme token.entry ∷ ahead scanner.old)) }
+    requires readable { Readable room (pile_from token scanner.old).here }
+    ensures found { result ≡ survey_first (pile_from token.entry scanner.old).here }
+    ensures past { pile_ahead scanner.new ≡ behind (pile_from token.entry scanner.old) }
 {
     match token {
         Token::Name(_) => Survey::of_one(true, None),

@@ -1,7 +1,6 @@
 // A form, part by part: each kind of definition from behind the head on.
 ghost use Rattle.std.specs.Prelude.{◌≡◌, ℕ, ◌+◌, ◌-◌, ◌<◌, ◌≤◌, length};
-ghost use Rattle.scanner.specs.Scans.{ahead};
-ghost use Rattle.reader.specs.Forms.{grow, Readable};
+ghost use Rattle.reader.specs.Forms.{forest_ahead, Readable};
 
 use crate::definition::{Definition, Enumeration, Function, Names};
 use crate::elements::elements;
@@ -21,14 +20,13 @@ const MOST_VARIABLES: usize = 64;
 pub(crate) struct Form<'a> {
     pub(crate) place: usize,
     pub(crate) rest: Scanner<'a>,
-    ghost readable: { Readable 31 (grow (ahead rest)).here },
+    ghost readable: { Readable 31 (forest_ahead rest) },
 }
 
 impl<'a> Form<'a> {
     ghost use Rattle.std.specs.Prelude.{pos, ◌+ℤ◌, int_le};
-    ghost use Rattle.reader.specs.Definitions.{defined, definition_faults, enumeration_defined, enumeration_faults, function_defined, function_faults, global_defined, global_faults, shown};
-    ghost use Rattle.reader.specs.Nests.{first_of};
-    ghost use Rattle.reader.specs.Parts.{elements_of, TakesList, TakesName};
+    ghost use Rattle.reader.specs.Definitions.{defined, definition_faults, enumeration_defined, enumeration_faults, function_defined, function_faults, global_defined, global_faults};
+    ghost use Rattle.reader.specs.Parts.{ReadsAs, TakesList, TakesName};
 
     fn name(&mut self) -> Result<Word<'a>, FormFault>
         ensures { TakesName self.old result self.new }
@@ -60,7 +58,7 @@ impl<'a> Form<'a> {
 
     // Behind `let`: a name.
     fn global(mut self) -> Result<Definition<'a>, FormFault>
-        ensures { shown result ≡ first_of (global_faults self.entry.place (elements_of self.entry)) (global_defined (elements_of self.entry)) }
+        ensures { ReadsAs global_faults global_defined self.entry result }
     {
         let name = self.name()?;
         match self.rest.token() {
@@ -71,7 +69,7 @@ impl<'a> Form<'a> {
 
     // Behind `enum`: a number, and names, at least one.
     fn enumeration(mut self) -> Result<Definition<'a>, FormFault>
-        ensures { shown result ≡ first_of (enumeration_faults self.entry.place (elements_of self.entry)) (enumeration_defined (elements_of self.entry)) }
+        ensures { ReadsAs enumeration_faults enumeration_defined self.entry result }
     {
         let Some(Token::Number(word, first)) = self.rest.token() else {
             return Err(FormFault::NoShape(self.place));
@@ -90,7 +88,7 @@ impl<'a> Form<'a> {
     // Behind `def`: a name, the formals, the locals and the body. The whole comes first.
     #[tactic(auto, using(crate::proofs::Misfits::first_misfit, crate::proofs::Misfits::no_misfit))]
     fn function(mut self) -> Result<Definition<'a>, FormFault>
-        ensures { shown result ≡ first_of (function_faults self.entry.place (elements_of self.entry)) (function_defined (elements_of self.entry)) }
+        ensures { ReadsAs function_faults function_defined self.entry result }
     {
         let name = self.name()?;
         let formals = self.list()?;
@@ -114,7 +112,7 @@ impl<'a> Form<'a> {
     }
 
     pub(crate) fn definition(mut self) -> Result<Definition<'a>, FormFault>
-        ensures { shown result ≡ first_of (definition_faults self.entry.place (elements_of self.entry)) (defined (elements_of self.entry)) }
+        ensures { ReadsAs definition_faults defined self.entry result }
     {
         let head = self.name()?;
         match Keyword::of(head.bytes) {
