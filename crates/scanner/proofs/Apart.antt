@@ -7,7 +7,7 @@ use Rattle.scanner.specs.Bytes.{class}
 use Rattle.scanner.specs.Pieces.{Piece, opening, closing, spelled, foreign, piece_place, Mode, between, in_word, in_comment, letters, if_letter, step, inside, pieces}
 use Rattle.scanner.specs.Laws.{is_word, piece_end, Clear, InOrder, InOrderAndApart}
 use Rattle.scanner.specs.declared.class.Class.{Class}
-use Rattle.scanner.specs.declared.class.Class.TheVariants.{Blank, LineFeed, Open, Close, Semicolon, Letter, Foreign}
+use Rattle.scanner.specs.declared.class.Class.TheVariants.{LineFeed, Open, Close, Semicolon, Letter, Foreign}
 use Rattle.scanner.proofs.Places.{places_from}
 
 -- at n or later, and a word later
@@ -30,12 +30,11 @@ module _ (b p : ℕ) (w v : List ℕ) (go : Mode → List Piece) (later : (n : M
 
   word_step : (k : Class) → AllByRecursion (Behind (p + 1 + length w)) (go in_word) → AllByRecursion (Behind (p + length (if_letter k (b ∷ w)))) (inside k b p v go)
   word_step Letter h = let e : p + 1 + length w ≡ p + length (b ∷ w) = omega arith in subst (λ n. AllByRecursion (Behind n) (go in_word)) e h
-  word_step Blank h = ended (go between) (past between)
-  word_step LineFeed h = ended (go between) (past between)
   word_step Open h = ended (opening p ∷ go between) (here_behind p (opening p) refl refl, past between)
   word_step Close h = ended (closing p ∷ go between) (here_behind p (closing p) refl refl, past between)
   word_step Semicolon h = ended (go in_comment) (past in_comment)
   word_step Foreign h = ended (foreign b p ∷ go between) (here_behind p (foreign b p) refl refl, past between)
+  word_step _ h = ended (go between) (past between)
 
 behind_word : (p : ℕ) (bs : List ℕ) → AllByRecursion (Behind (p + length (letters bs))) (pieces in_word p bs)
 behind_word p [] = tt
@@ -50,37 +49,20 @@ lone_clear x p [] e lone h = tt
 lone_clear x p (y ∷ ys) e lone h = (omega (arith, h.0), λ word. absurd (both_ways (is_word x) lone word))
 
 module _ (b p : ℕ) (w : List ℕ) (go : Mode → List Piece) (later : (n : Mode) → AllByRecursion (λ x. p + 1 ≤ piece_place x) (go n)) (order : (n : Mode) → InOrder (go n)) where
-  opens : (n : Mode) → InOrder (opening p ∷ go n)
-  opens n = (lone_clear (opening p) p (go n) refl refl (later n), order n)
-
-  closes : (n : Mode) → InOrder (closing p ∷ go n)
-  closes n = (lone_clear (closing p) p (go n) refl refl (later n), order n)
-
-  odd : (n : Mode) → InOrder (foreign b p ∷ go n)
-  odd n = (lone_clear (foreign b p) p (go n) refl refl (later n), order n)
+  lone : (x : Piece) → piece_end x ≡ p + 1 → is_word x ≡ false → (n : Mode) → InOrder (x ∷ go n)
+  lone x e no_word n = (lone_clear x p (go n) e no_word (later n), order n)
 
   order_step : (m : Mode) (k : Class) → (k ≡ Letter → Clear (spelled w p) (go in_word)) → InOrder (step m k b p w go)
-  order_step between Blank word = order between
-  order_step between LineFeed word = order between
-  order_step between Open word = opens between
-  order_step between Close word = closes between
-  order_step between Semicolon word = order in_comment
-  order_step between Letter word = (word refl, order in_word)
-  order_step between Foreign word = odd between
-  order_step in_word Blank word = order between
-  order_step in_word LineFeed word = order between
-  order_step in_word Open word = opens between
-  order_step in_word Close word = closes between
-  order_step in_word Semicolon word = order in_comment
-  order_step in_word Letter word = order in_word
-  order_step in_word Foreign word = odd between
-  order_step in_comment Blank word = order in_comment
   order_step in_comment LineFeed word = order between
-  order_step in_comment Open word = order in_comment
-  order_step in_comment Close word = order in_comment
-  order_step in_comment Semicolon word = order in_comment
-  order_step in_comment Letter word = order in_comment
-  order_step in_comment Foreign word = odd in_comment
+  order_step in_comment Foreign word = lone (foreign b p) refl refl in_comment
+  order_step in_comment _ word = order in_comment
+  order_step between Letter word = (word refl, order in_word)
+  order_step in_word Letter word = order in_word
+  order_step _ Open word = lone (opening p) refl refl between
+  order_step _ Close word = lone (closing p) refl refl between
+  order_step _ Semicolon word = order in_comment
+  order_step _ Foreign word = lone (foreign b p) refl refl between
+  order_step _ _ word = order between
 
 -- a word ends where its letters end
 word_clear : (p b : ℕ) (bs : List ℕ) → class b ≡ Letter → Clear (spelled (letters (b ∷ bs)) p) (pieces in_word (p + 1) bs)

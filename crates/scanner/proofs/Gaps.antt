@@ -5,7 +5,7 @@ use Rattle.scanner.specs.Bytes.{class}
 use Rattle.scanner.specs.Gaps.{Gap, nothing, blank, line_feed, comment, Hushed, moved, at_place, GapMovesPieces}
 use Rattle.scanner.specs.Pieces.{Piece, Mode, between, in_word, in_comment, if_letter, letters, step, pieces}
 use Rattle.scanner.specs.declared.class.Class.{Class}
-use Rattle.scanner.specs.declared.class.Class.TheVariants.{Blank, LineFeed, Open, Close, Semicolon, Letter, Foreign}
+use Rattle.scanner.specs.declared.class.Class.TheVariants.{LineFeed, Letter, Foreign}
 use Rattle.scanner.proofs.Cuts.{after, Ready, ready}
 use Rattle.scanner.proofs.Modes.{next}
 use Rattle.scanner.proofs.Shifts.{moved_before, step_moves, pieces_shift}
@@ -13,12 +13,7 @@ use Rattle.scanner.proofs.Shifts.{moved_before, step_moves, pieces_shift}
 -- where no letter comes next no word begins
 no_letter : (k : Class) (w : List ℕ) → (k ≡ Letter → ⊥) → if_letter k w ≡ []
 no_letter Letter w ne = absurd (ne refl)
-no_letter Blank w ne = refl
-no_letter LineFeed w ne = refl
-no_letter Open w ne = refl
-no_letter Close w ne = refl
-no_letter Semicolon w ne = refl
-no_letter Foreign w ne = refl
+no_letter _ w ne = refl
 
 no_letters : (b : List ℕ) → Ready in_word b → letters b ≡ []
 no_letters [] r = refl
@@ -27,22 +22,12 @@ no_letters (x ∷ b) r = no_letter (class x) (x ∷ letters b) r
 -- two words are one if what stands behind a first letter is
 same_word : (k : Class) (x : ℕ) (v w : List ℕ) → (next in_word k ≡ in_word → v ≡ w) → if_letter k (x ∷ v) ≡ if_letter k (x ∷ w)
 same_word Letter x v w h = ap (λ u. x ∷ u) (h refl)
-same_word Blank x v w h = refl
-same_word LineFeed x v w h = refl
-same_word Open x v w h = refl
-same_word Close x v w h = refl
-same_word Semicolon x v w h = refl
-same_word Foreign x v w h = refl
+same_word _ x v w h = refl
 
 -- where no letter comes next a word has ended
 step_ended : (k : Class) (x p : ℕ) (w : List ℕ) (go : Mode → List Piece) → (k ≡ Letter → ⊥) → step in_word k x p w go ≡ step between k x p w go
 step_ended Letter x p w go ne = absurd (ne refl)
-step_ended Blank x p w go ne = refl
-step_ended LineFeed x p w go ne = refl
-step_ended Open x p w go ne = refl
-step_ended Close x p w go ne = refl
-step_ended Semicolon x p w go ne = refl
-step_ended Foreign x p w go ne = refl
+step_ended _ x p w go ne = refl
 
 pieces_ready : (m : Mode) (p : ℕ) (b : List ℕ) → Ready m b → pieces m p b ≡ pieces between p b
 pieces_ready between p b r = refl
@@ -54,11 +39,7 @@ pieces_ready in_comment p b r = absurd r
 step_hushed : (k : Class) (x p : ℕ) (w : List ℕ) (go : Mode → List Piece) → (k ≡ LineFeed → ⊥) × (k ≡ Foreign → ⊥) → step in_comment k x p w go ≡ go in_comment
 step_hushed LineFeed x p w go ne = absurd (ne.0 refl)
 step_hushed Foreign x p w go ne = absurd (ne.1 refl)
-step_hushed Blank x p w go ne = refl
-step_hushed Open x p w go ne = refl
-step_hushed Close x p w go ne = refl
-step_hushed Semicolon x p w go ne = refl
-step_hushed Letter x p w go ne = refl
+step_hushed _ x p w go ne = refl
 
 pieces_comment : (p q : ℕ) (c r : List ℕ) → AllByRecursion Hushed c → q ≡ p + length c + 1 → pieces in_comment p (c ++ (10 ∷ r)) ≡ pieces between q r
 pieces_comment p q [] r h e = ap (λ n. pieces between n r) (omega arith)

@@ -6,7 +6,7 @@ use Rattle.scanner.specs.Bytes.{class}
 use Rattle.scanner.specs.Pieces.{spelled, Mode, between, letters, if_letter, pieces}
 use Rattle.scanner.specs.Laws.{Part, Lettered, PartsOfTheText}
 use Rattle.scanner.specs.declared.class.Class.{Class}
-use Rattle.scanner.specs.declared.class.Class.TheVariants.{Blank, LineFeed, Open, Close, Semicolon, Letter, Foreign}
+use Rattle.scanner.specs.declared.class.Class.TheVariants.{Open, Close, Letter}
 use Rattle.scanner.proofs.Places.{byte_of, all_step}
 
 letters_front : (bs : List ℕ) → take (length (letters bs)) bs ≡ letters bs
@@ -15,12 +15,7 @@ letters_front (b ∷ bs) = front (class b) (letters_front bs)
   where
     front : (k : Class) → take (length (letters bs)) bs ≡ letters bs → take (length (if_letter k (b ∷ letters bs))) (b ∷ bs) ≡ if_letter k (b ∷ letters bs)
     front Letter h = ap (λ w. b ∷ w) h
-    front Blank h = refl
-    front LineFeed h = refl
-    front Open h = refl
-    front Close h = refl
-    front Semicolon h = refl
-    front Foreign h = refl
+    front _ h = refl
 
 letters_all : (bs : List ℕ) → AllByRecursion (λ b. class b ≡ Letter) (letters bs)
 letters_all [] = tt
@@ -28,12 +23,7 @@ letters_all (b ∷ bs) = all (class b) refl (letters_all bs)
   where
     all : (k : Class) → class b ≡ k → AllByRecursion (λ b. class b ≡ Letter) (letters bs) → AllByRecursion (λ b. class b ≡ Letter) (if_letter k (b ∷ letters bs))
     all Letter e h = (e, h)
-    all Blank e h = tt
-    all LineFeed e h = tt
-    all Open e h = tt
-    all Close e h = tt
-    all Semicolon e h = tt
-    all Foreign e h = tt
+    all _ e h = tt
 
 module _ (text : List ℕ) (p b : ℕ) (bs : List ℕ) (rest : drop p text ≡ b ∷ bs) where
   -- the byte at p alone

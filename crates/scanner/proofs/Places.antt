@@ -34,27 +34,16 @@ byte_of k b e = subst (λ k. Told k b) e (told b)
 
 -- what holds of every piece holds of those from one byte on
 pub all_step : (P : Piece → Type 0) (m : Mode) (k : Class) (b p : ℕ) (w : List ℕ) (go : Mode → List Piece) → (k ≡ Open → P (opening p)) → (k ≡ Close → P (closing p)) → (k ≡ Letter → P (spelled w p)) → (k ≡ Foreign → P (foreign b p)) → ((n : Mode) → AllByRecursion P (go n)) → AllByRecursion P (step m k b p w go)
-all_step P between Blank b p w go o c l f h = h between
-all_step P between LineFeed b p w go o c l f h = h between
-all_step P between Open b p w go o c l f h = (o refl, h between)
-all_step P between Close b p w go o c l f h = (c refl, h between)
-all_step P between Semicolon b p w go o c l f h = h in_comment
-all_step P between Letter b p w go o c l f h = (l refl, h in_word)
-all_step P between Foreign b p w go o c l f h = (f refl, h between)
-all_step P in_word Blank b p w go o c l f h = h between
-all_step P in_word LineFeed b p w go o c l f h = h between
-all_step P in_word Open b p w go o c l f h = (o refl, h between)
-all_step P in_word Close b p w go o c l f h = (c refl, h between)
-all_step P in_word Semicolon b p w go o c l f h = h in_comment
-all_step P in_word Letter b p w go o c l f h = h in_word
-all_step P in_word Foreign b p w go o c l f h = (f refl, h between)
-all_step P in_comment Blank b p w go o c l f h = h in_comment
 all_step P in_comment LineFeed b p w go o c l f h = h between
-all_step P in_comment Open b p w go o c l f h = h in_comment
-all_step P in_comment Close b p w go o c l f h = h in_comment
-all_step P in_comment Semicolon b p w go o c l f h = h in_comment
-all_step P in_comment Letter b p w go o c l f h = h in_comment
 all_step P in_comment Foreign b p w go o c l f h = (f refl, h in_comment)
+all_step P in_comment _ b p w go o c l f h = h in_comment
+all_step P between Letter b p w go o c l f h = (l refl, h in_word)
+all_step P in_word Letter b p w go o c l f h = h in_word
+all_step P _ Open b p w go o c l f h = (o refl, h between)
+all_step P _ Close b p w go o c l f h = (c refl, h between)
+all_step P _ Semicolon b p w go o c l f h = h in_comment
+all_step P _ Foreign b p w go o c l f h = (f refl, h between)
+all_step P _ _ b p w go o c l f h = h between
 
 pub places_from : (m : Mode) (p : ℕ) (bs : List ℕ) → AllByRecursion (λ x. p ≤ piece_place x) (pieces m p bs)
 places_from m p [] = tt

@@ -13,14 +13,10 @@ class b =
     (cond (b == 34) Foreign
     (cond (nat_le 33 b && nat_le b 126) Letter Foreign))))))
 
+-- it belongs to a word
 abbrev pub letter : Class → Bool
 letter Letter = true
-letter Blank = false
-letter LineFeed = false
-letter Open = false
-letter Close = false
-letter Semicolon = false
-letter Foreign = false
+letter _ = false
 
 abbrev pub is_letter : ℕ → Bool
 is_letter b = letter (class b)

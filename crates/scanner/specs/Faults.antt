@@ -1,5 +1,5 @@
 -- All faults of a text up to its words, and which of several faults is the refusal.
-use Rattle.std.specs.Prelude.{ℕ, Bool, true, false, cond, ◌&&◌, ◌||◌, List, [], ◌∷◌, ◌++◌, length, ℤ, Some, None, Ok, Err, Option, Result, ◌==◌, nat_lt}
+use Rattle.std.specs.Prelude.{ℕ, Bool, true, false, cond, ◌&&◌, ◌||◌, List, [], ◌∷◌, ◌++◌, length, ℤ, Some, None, Ok, Err, Option, Result, ◌==◌, nat_lt, codes}
 use Rattle.scanner.specs.declared.fault.Refusal.{Refusal}
 use Rattle.scanner.specs.declared.fault.ScanFault.{ScanFault}
 use Rattle.scanner.specs.declared.fault.ScanFault.TheVariants.{TextTooLong, ForeignByte, WordTooLong, OutOfRange}
@@ -15,6 +15,13 @@ scan_refusal TextTooLong = refusal 1 0 1
 scan_refusal (ForeignByte p) = refusal 2 p 2
 scan_refusal (WordTooLong p) = refusal 3 p 2
 scan_refusal (OutOfRange p) = refusal 4 p 2
+
+-- what is wrong, in words
+abbrev pub scan_words : ScanFault → List ℕ
+scan_words TextTooLong = codes "the text of a definition has over 8,192 bytes"
+scan_words (ForeignByte p) = codes "this byte may not stand in a text, not even in a comment"
+scan_words (WordTooLong p) = codes "this word has over 16 bytes"
+scan_words (OutOfRange p) = codes "this number is not from -8,388,608 to 8,388,607"
 
 -- an earlier pass, then a smaller place, then a smaller number
 abbrev pub before : Refusal → Refusal → Bool

@@ -1,64 +1,51 @@
 // Words that are numbers, and words that are names.
-ghost use Rattle.std.specs.Prelude.{◌≡◌, ℕ, ◌+◌, ◌-◌, ◌*◌, ◌<◌, ◌≤◌, length, pos, neg_ℤ};
-ghost use Rattle.scanner.specs.Words.{judged, magnitude, minus, plus, word_item};
+ghost use Rattle.std.specs.Prelude.{◌≡◌, ℕ, ◌≤◌, length};
+ghost use Rattle.scanner.specs.Words.{magnitude, plus, value, word_item};
 ghost use Rattle.scanner.specs.Scans.{seen};
 
 use crate::fault::{MOST_WORD, ScanFault};
 use crate::token::{Token, Word};
 
-const GREATEST: u64 = 8_388_607;
+const LEAST: i64 = -8_388_608;
 
-const LEAST: u64 = 8_388_608;
+const GREATEST: i64 = 8_388_607;
 
-// What the digits of a word say; none if it is not digits, at least one.
-fn magnitude_of(bytes: &[u8]) -> Option<u64>
+// What digits say, at least one; of other bytes none.
+fn magnitude_of(bytes: &[u8]) -> Option<i64>
     requires { length bytes.now ≤ 16 }
-    ensures { result ≡ magnitude bytes.now }
+    ensures { result ≡ plus (magnitude bytes.now) }
 {
     if bytes.is_empty() {
         return None;
     }
     let mut n = 0;
-    for b in bytes {
-        if *b < b'0' || *b > b'9' {
-            return None;
-        }
-        n = n * 10 + (*b - b'0') as u64;
+    for &byte in bytes {
+        n = n * 10 + i64::from(char::from(byte).to_digit(10)?);
     }
     Some(n)
 }
 
-fn unsigned_token<'a>(word: Word<'a>) -> Result<Token<'a>, ScanFault>
-    requires { length word.bytes.now ≤ 16 }
-    ensures { seen result ≡ judged (plus (magnitude word.entry.bytes.now)) word.entry.bytes.now word.entry.place }
+// The value of a word that is a number: digits, or a minus sign and digits.
+fn value_of(bytes: &[u8]) -> Option<i64>
+    requires { length bytes.now ≤ 16 }
+    ensures { result ≡ value bytes.now }
 {
-    match magnitude_of(word.bytes) {
-        None => Ok(Token::Name(word)),
-        Some(n) if n > GREATEST => Err(ScanFault::OutOfRange(word.place)),
-        Some(n) => Ok(Token::Number(word, n as i32)),
+    match bytes {
+        [b'-', digits @ ..] => magnitude_of(digits).map(|n| -n),
+        _ => magnitude_of(bytes),
     }
 }
 
-// The word has these digits behind its sign.
-fn negative_token<'a>(word: Word<'a>, digits: &[u8]) -> Result<Token<'a>, ScanFault>
-    requires { length digits.now ≤ 16 }
-    ensures { seen result ≡ judged (minus (magnitude digits.now)) word.entry.bytes.now word.entry.place }
-{
-    match magnitude_of(digits) {
-        None => Ok(Token::Name(word)),
-        Some(n) if n > LEAST => Err(ScanFault::OutOfRange(word.place)),
-        Some(n) => Ok(Token::Number(word, -(n as i32))),
-    }
-}
-
+#[tactic(auto, unfolding(crate::specs::Words::word_item))]
 pub(crate) fn token_of<'a>(word: Word<'a>) -> Result<Token<'a>, ScanFault>
     ensures { seen result ≡ word_item word.entry.bytes.now word.entry.place }
 {
     if word.bytes.len() > MOST_WORD {
         return Err(ScanFault::WordTooLong(word.place));
     }
-    match word.bytes {
-        [b'-', digits @ ..] => negative_token(word, digits),
-        _ => unsigned_token(word),
+    match value_of(word.bytes) {
+        None => Ok(Token::Name(word)),
+        Some(value @ LEAST..=GREATEST) => Ok(Token::Number(word, value as i32)),
+        Some(_) => Err(ScanFault::OutOfRange(word.place)),
     }
 }

@@ -31,7 +31,7 @@ fn word_length(bytes: &[u8]) -> usize
 {
     bytes
         .iter()
-        .take_while(|byte| class_of(**byte) == Class::Letter)
+        .take_while(|&&byte| class_of(byte) == Class::Letter)
         .count()
 }
 
@@ -61,7 +61,7 @@ impl<'a> Iterator for Scanner<'a> {
 
     ghost remaining = { item_count left };
 
-    fn next(&mut self) -> Option<Result<Token<'a>, ScanFault>> {
+    fn next(&mut self) -> Option<Self::Item> {
         for &byte in self.text.get(self.at..)? {
             let place = self.at;
             self.at += 1;

@@ -1,5 +1,6 @@
+use Rattle.std.proofs.Common.{◌≡◌, ℕ, pos}
 use Rattle.scanner.proofs.Numbers.{Read}
 use Rattle.scanner.proofs.number.magnitude_of.Given as goal
 
-abbrev pub invariant-loop-b : goal.invariant-loop-b
-invariant-loop-b l = Read l.bytes l.n l.b-index
+abbrev pub invariant-loop-byte : goal.invariant-loop-byte
+invariant-loop-byte l = (m : ℕ) × (l.n ≡ pos m) × Read l.bytes m l.byte-index
