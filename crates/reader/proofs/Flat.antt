@@ -8,7 +8,7 @@ use Rattle.reader.specs.Nests.{nest_faults}
 use Rattle.reader.specs.Spelling.{Spelled, spelled, forest_spelled}
 use Rattle.reader.specs.declared.fault.FormFault.TheVariants.{NotOneForm, TooDeep}
 use Rattle.reader.specs.declared.nesting.Nesting.TheVariants.{Before, Inside, After}
-use Rattle.reader.proofs.Nested.{never, Around, over, passed, inner, one_form}
+use Rattle.reader.proofs.Nested.{Around, over, passed, inner, one_form}
 
 -- the lists around go on, each behind a closing parenthesis
 abbrev around_spelled : List Forest → List Spelled
@@ -51,6 +51,6 @@ form_spelled e (opens p ∷ ls) ok =
     open_spelled 1 p (grow ls).here (grow ls).around (map spelled ls) i.around (inner_spelled 1 e ls (omega arith) (omega arith) ok)
     ∙ ap (λ fs. forest_spelled (grow (opens p ∷ ls)).here ++ around_spelled fs) alone
     ∙ append-nil (forest_spelled (grow (opens p ∷ ls)).here)
-form_spelled e (closes p ∷ ls) ok = never (NotOneForm p) _ ok
-form_spelled e (name w p ∷ ls) ok = never (NotOneForm p) _ ok
-form_spelled e (number w v p ∷ ls) ok = never (NotOneForm p) _ ok
+form_spelled e (closes p ∷ ls) ok = cc
+form_spelled e (name w p ∷ ls) ok = cc
+form_spelled e (number w v p ∷ ls) ok = cc

@@ -5,8 +5,8 @@ pub mod Nested
 pub mod Order
 pub mod Whole
 mod Moves
-mod Spaced
+pub mod Spaced
 mod Flat
 mod Heads
 mod Values
-mod Spelled
+pub mod Spelled

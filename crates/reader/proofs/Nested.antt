@@ -9,9 +9,6 @@ use Rattle.reader.specs.declared.fault.FormFault.{FormFault}
 use Rattle.reader.specs.declared.fault.FormFault.TheVariants.{NotOneForm, TooDeep}
 use Rattle.reader.specs.declared.nesting.Nesting.TheVariants.{Before, Inside, After}
 
-pub never : {X : Type 0} (f : FormFault) (fs : List FormFault) → ◌≡◌ {A = List FormFault} (f ∷ fs) [] → X
-never f fs e = let z : ◌≡◌ {A = ℕ} 0 1 = cc in absurd (omega arith)
-
 -- with d parentheses open, what goes on in each list around is shallow, and nothing goes on in the outermost
 abbrev pub Around : ℕ → List Forest → Type 0
 Around d [] = ⊥
@@ -25,13 +22,13 @@ pub record Inner (d : ℕ) (s : Pile) : Type 0 where
 -- nothing follows the form
 pub over : (e : ℕ) (ls : List Lexeme) → nest_faults After e ls ≡ [] → ls ≡ []
 over e [] ok = refl
-over e (opens p ∷ ls) ok = never (NotOneForm p) _ ok
-over e (closes p ∷ ls) ok = never (NotOneForm p) _ ok
-over e (name w p ∷ ls) ok = never (NotOneForm p) _ ok
-over e (number w v p ∷ ls) ok = never (NotOneForm p) _ ok
+over e (opens p ∷ ls) ok = cc
+over e (closes p ∷ ls) ok = cc
+over e (name w p ∷ ls) ok = cc
+over e (number w v p ∷ ls) ok = cc
 
 pub passed : (b : Bool) (f : FormFault) (fs : List FormFault) → when b f ++ fs ≡ [] → (b ≡ false) × (fs ≡ [])
-passed true f fs ok = never f fs ok
+passed true f fs ok = cc
 passed false f fs ok = (refl, ok)
 
 opened : (d p : ℕ) (f : Forest) (fs : List Forest) → 0 < d → d < 32 → depth f + (d + 1) ≤ 32 → Around (d + 1) fs → (depth (form p f (first_list fs)) + d ≤ 32) × Around d (other_lists fs)
@@ -47,7 +44,7 @@ closed d s more i = close s.here s.around i.low i.around
     close f (g ∷ fs) low a = (more, low, a)
 
 pub inner : (d e : ℕ) (ls : List Lexeme) → 0 < d → d ≤ 32 → nest_faults (Inside d) e ls ≡ [] → Inner d (grow ls)
-inner d e [] some le ok = never (NotOneForm e) [] ok
+inner d e [] some le ok = cc
 inner d e (opens p ∷ ls) some le ok =
     let a = passed (leb 32 d) (TooDeep p) (nest_faults (Inside (d + 1)) e ls) ok in
     let lt : d < 32 = leb-false 32 d a.0 in
@@ -81,13 +78,13 @@ alone_in p f (g ∷ []) a = ap (λ x. record { here = form p f x; around = [] })
 alone_in p f (g ∷ h ∷ fs) a = absurd (omega (arith, a.0))
 
 pub one_form : (e : ℕ) (ls : List Lexeme) → nest_faults Before e ls ≡ [] → OneForm ls
-one_form e [] ok = never (NotOneForm e) [] ok
+one_form e [] ok = cc
 one_form e (opens p ∷ ls) ok =
     let i = inner 1 e ls (omega arith) (omega arith) ok in
     record { place = p; rest = ls; begins = refl; alone = alone_in p (grow ls).here (grow ls).around i.around; shallow = omega (arith, i.low) }
-one_form e (closes p ∷ ls) ok = never (NotOneForm p) _ ok
-one_form e (name w p ∷ ls) ok = never (NotOneForm p) _ ok
-one_form e (number w v p ∷ ls) ok = never (NotOneForm p) _ ok
+one_form e (closes p ∷ ls) ok = cc
+one_form e (name w p ∷ ls) ok = cc
+one_form e (number w v p ∷ ls) ok = cc
 
 sizes : List Forest → ℕ
 sizes [] = 0

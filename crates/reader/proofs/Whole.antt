@@ -37,7 +37,7 @@ module _ (text : List ℕ) where
   scan_refuses f e = reading_first ∙ begins (scan_faults text) _ (sym scan_first ∙ sym e)
     where
       begins : (fs : List ScanFault) (gs : List FormFault) → refused (first fs) ≡ Err f → first_of (map Scan fs ++ gs) (first_defined (forms_of text)) ≡ Err (Scan f)
-      begins [] gs h = let z : ◌≡◌ {A = ℕ} 0 1 = cc in absurd (omega arith)
+      begins [] gs h = cc
       begins (g ∷ fs) gs h = let same : g ≡ f = cc in ap (λ g. Err (Scan g)) same
 
   -- it finds none
@@ -47,13 +47,13 @@ module _ (text : List ℕ) where
       where
         none : (fs : List ScanFault) → refused (first fs) ≡ Ok tt → fs ≡ []
         none [] h = refl
-        none (f ∷ fs) h = let z : ◌≡◌ {A = ℕ} 0 1 = cc in absurd (omega arith)
+        none (f ∷ fs) h = cc
 
     short : length text ≤ 8192
     short = ltb-false 8192 (length text) (no_length_fault (ltb 8192 (length text)) (pieces_faults (pieces_of text)) no_scan_fault)
       where
         no_length_fault : (b : Bool) (fs : List ScanFault) → when b TextTooLong ++ fs ≡ [] → b ≡ false
-        no_length_fault true fs h = let z : ◌≡◌ {A = ℕ} 0 1 = cc in absurd (omega arith)
+        no_length_fault true fs h = cc
         no_length_fault false fs h = refl
 
     past_scan : reading text ≡ first_of (nest_faults Before (length text) (lexemes_of text) ++ shape_faults (forms_of text)) (first_defined (forms_of text))
@@ -63,7 +63,7 @@ module _ (text : List ℕ) where
     nest_refuses f e = past_scan ∙ begins (nest_faults Before (length text) (lexemes_of text)) _ (sym e)
       where
         begins : (fs gs : List FormFault) → first_of fs (tt {0}) ≡ Err f → first_of (fs ++ gs) (first_defined (forms_of text)) ≡ Err f
-        begins [] gs h = let z : ◌≡◌ {A = ℕ} 0 1 = cc in absurd (omega arith)
+        begins [] gs h = cc
         begins (g ∷ fs) gs h = let same : g ≡ f = cc in ap Err same
 
     -- neither finds one
@@ -73,7 +73,7 @@ module _ (text : List ℕ) where
         where
           none : (fs : List FormFault) → first_of fs (tt {0}) ≡ Ok tt → fs ≡ []
           none [] h = refl
-          none (f ∷ fs) h = let z : ◌≡◌ {A = ℕ} 0 1 = cc in absurd (omega arith)
+          none (f ∷ fs) h = cc
 
       -- the tokens are an opening parenthesis and others
       module _ (p : ℕ) (rest : List Lexeme) (begins : lexemes_of text ≡ opens p ∷ rest) where

@@ -14,6 +14,7 @@ use scanner::scanner::Scanner;
 use scanner::token::Token;
 
 // The refusal is the least of the faults.
+#[tactic(auto, using(crate::proofs::Spaced::spacing_is_free, crate::proofs::Spelled::nothing_is_lost))]
 pub fn read(text: &[u8]) -> Result<Definition<'_>, FormFault>
     ensures answer { shown result ≡ reading text.now }
     ensures spelling { NothingIsLost text.now }
@@ -21,13 +22,9 @@ pub fn read(text: &[u8]) -> Result<Definition<'_>, FormFault>
 {
     scan(text)?;
     nest(text)?;
-    let mut scanner = Scanner::new(text);
-    match scanner.token() {
-        Some(Token::Open(place)) => Form {
-            place,
-            rest: scanner,
-        }
-        .definition(),
+    let mut rest = Scanner::new(text);
+    match rest.token() {
+        Some(Token::Open(place)) => Form { place, rest }.definition(),
         _ => unreachable(),
     }
 }
