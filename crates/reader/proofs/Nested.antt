@@ -1,5 +1,5 @@
 -- A text without faults of nesting is one form, with at most 32 parentheses open.
-use Rattle.std.proofs.Common.{◌≡◌, ℕ, ◌+◌, ◌-◌, ◌<◌, ◌≤◌, Bool, true, false, leb, List, [], ◌∷◌, ◌++◌, length, sym, refl, ap, ◌∙◌, subst, ⊎_elim, arith}
+use Rattle.std.proofs.Common.{◌≡◌, ℕ, ◌+◌, ◌-◌, ◌<◌, ◌≤◌, Bool, true, false, leb, List, [], ◌∷◌, ◌++◌, length, sym, refl, ap, ◌∙◌, subst, ⊎_elim, inl, inr, ◌⊎◌, arith}
 use Rattle.std.proofs.lemmas.Bool.{cases_lt, leb-false, le-leb, lt-leb, cond-true, cond-false}
 use Rattle.scanner.specs.Faults.{when}
 use Rattle.scanner.specs.Words.{Lexeme, opens, closes, name, number}
@@ -31,6 +31,14 @@ pub passed : (b : Bool) (f : FormFault) (fs : List FormFault) → when b f ++ fs
 passed true f fs ok = cc
 passed false f fs ok = (refl, ok)
 
+-- a parenthesis closes an inner list, or the form, which nothing follows
+pub closing : (d e p : ℕ) (ls : List Lexeme) → nest_faults (Inside d) e (closes p ∷ ls) ≡ [] → ((1 < d) × (nest_faults (Inside (d - 1)) e ls ≡ [])) ⊎ ((d ≤ 1) × (ls ≡ []))
+closing d e p ls ok =
+    ⊎_elim
+    (λ more. inl (more, sym (ap (λ s. nest_faults s e ls) (cond-false (leb d 1) After (Inside (d - 1)) (lt-leb d 1 more))) ∙ ok))
+    (λ last. inr (last, over e ls (sym (ap (λ s. nest_faults s e ls) (cond-true (leb d 1) After (Inside (d - 1)) (le-leb d 1 last))) ∙ ok)))
+    (cases_lt 1 d)
+
 opened : (d p : ℕ) (f : Forest) (fs : List Forest) → 0 < d → d < 32 → depth f + (d + 1) ≤ 32 → Around (d + 1) fs → (depth (form p f (first_list fs)) + d ≤ 32) × Around d (other_lists fs)
 opened d p f [] some lt low a = absurd a
 opened d p f (g ∷ []) some lt low a = absurd (omega (arith, a.0))
@@ -53,14 +61,9 @@ inner d e (opens p ∷ ls) some le ok =
     record { low = o.0; around = o.1 }
 inner d e (closes p ∷ ls) some le ok =
     ⊎_elim
-    (λ more.
-    let ok' : nest_faults (Inside (d - 1)) e ls ≡ [] = sym (ap (λ s. nest_faults s e ls) (cond-false (leb d 1) After (Inside (d - 1)) (lt-leb d 1 more))) ∙ ok in
-    record { low = omega arith; around = closed d (grow ls) more (inner (d - 1) e ls (omega arith) (omega arith) ok') })
-    (λ last.
-    let ok' : nest_faults After e ls ≡ [] = sym (ap (λ s. nest_faults s e ls) (cond-true (leb d 1) After (Inside (d - 1)) (le-leb d 1 last))) ∙ ok in
-    let one : d ≡ 1 = omega arith in
-    record { low = omega arith; around = subst (λ l. Around d ((grow l).here ∷ (grow l).around)) (sym (over e ls ok')) (one, refl) })
-    (cases_lt 1 d)
+    (λ more. record { low = omega arith; around = closed d (grow ls) more.0 (inner (d - 1) e ls (omega arith) (omega arith) more.1) })
+    (λ last. record { low = omega arith; around = subst (λ l. Around d ((grow l).here ∷ (grow l).around)) (sym last.1) (omega arith, refl) })
+    (closing d e p ls ok)
 inner d e (name w p ∷ ls) some le ok = let i = inner d e ls some le ok in record { low = i.low; around = i.around }
 inner d e (number w v p ∷ ls) some le ok = let i = inner d e ls some le ok in record { low = i.low; around = i.around }
 
