@@ -18,7 +18,7 @@ use Rattle.reader.proofs.Flat.{form_spelled}
 use Rattle.reader.proofs.Heads.{Head, head_is}
 use Rattle.reader.proofs.Nested.{one_form}
 use Rattle.reader.proofs.Values.{ValuedForest, forms_valued}
-use Rattle.reader.proofs.Whole.{reading_first}
+use Rattle.reader.proofs.Whole.{accepted, reading_first}
 
 -- names are all that there is
 names_are_all : (f : Forest) → only_names f ≡ true → forest_spelled f ≡ names_spelled (names_in f)
@@ -103,10 +103,6 @@ alone_spelled p f g e =
 both_empty : (xs ys : List FormFault) → xs ++ ys ≡ [] → (xs ≡ []) × (ys ≡ [])
 both_empty [] ys h = (refl, h)
 both_empty (x ∷ xs) ys h = cc
-
-accepted : (fs : List FormFault) (x d : Defined) → first_of fs x ≡ Ok d → (fs ≡ []) × (x ≡ d)
-accepted [] x d h = (refl, cc)
-accepted (f ∷ fs) x d h = cc
 
 pub nothing_is_lost : (text : List ℕ) → NothingIsLost text
 nothing_is_lost text d read =

@@ -45,13 +45,11 @@ impl<'a> Iterator for Names<'a> {
 
     fn next(&mut self) -> Option<Word<'a>> {
         let mut ahead = self.list;
-        match ahead.token() {
-            Some(Token::Name(word)) => {
-                self.list = ahead;
-                Some(word)
-            }
-            _ => None,
-        }
+        let Some(Token::Name(word)) = ahead.token() else {
+            return None;
+        };
+        self.list = ahead;
+        Some(word)
     }
 }
 

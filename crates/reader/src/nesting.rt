@@ -48,6 +48,7 @@ pub(crate) fn nest(text: &[u8]) -> Result<(), FormFault>
 {
     let mut scanner = Scanner::new(text);
     let mut nesting = Nesting::Before;
+    // `token` and no `for`: a `for` over the scanner gives its faults too, which were told before
     while let Some(token) = scanner.token() {
         nesting = nesting.past(token)?;
     }

@@ -37,6 +37,7 @@ pub enum Leading {
 pub fn shape_of(head: Option<Keyword>) -> Option<Shape>
     ensures { result ≡ shape head }
 {
+    // pairs, and one early return: a `Some` of a whole shape in each row would hide the table
     let (lead, operands) = match head {
         Some(Keyword::If) => (Lead::Expression, Operands::Exactly(3)),
         Some(Keyword::While) => (Lead::Expression, Operands::Exactly(2)),

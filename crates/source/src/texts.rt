@@ -28,6 +28,7 @@ fn first_end(text: &[u8]) -> usize
 {
     let mut scanner = Scanner::new(text);
     let mut standing = Standing::First;
+    // `token` and no `for`: a `for` over the scanner gives its faults too, which end no text
     while let Some(token) = scanner.token() {
         standing = match (standing, token) {
             (Standing::First, Token::Open(_)) => Standing::Inside(1),
