@@ -13,3 +13,4 @@ pub mod Gaps
 pub mod Ascents
 pub mod Rises
 pub mod Firsts
+mod Scanned

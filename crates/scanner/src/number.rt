@@ -1,5 +1,5 @@
 // Words that are numbers, and words that are names.
-ghost use Rattle.std.specs.Prelude.{◌≡◌, ℕ, ◌≤◌, length};
+ghost use Rattle.std.specs.Prelude.{◌≡◌, ◌≤◌, length};
 ghost use Rattle.scanner.specs.Words.{magnitude, plus, value, word_item};
 ghost use Rattle.scanner.specs.Scans.{seen};
 

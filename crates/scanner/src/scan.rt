@@ -1,5 +1,5 @@
 // The first two passes over a text.
-ghost use Rattle.std.specs.Prelude.{◌≡◌, ℕ, ◌<◌, ◌≤◌, length};
+ghost use Rattle.std.specs.Prelude.{◌≡◌};
 ghost use Rattle.scanner.specs.Faults.{scan_faults, scan_refusal, refused_by};
 ghost use Rattle.scanner.specs.Laws.{EachByteOwned, InOrderAndApart, PartsOfTheText};
 ghost use Rattle.scanner.specs.Scans.{items_of, sound};
@@ -18,6 +18,7 @@ fn scan_tokens(text: &[u8]) -> Result<(), ScanFault>
 }
 
 // The refusal is the least of the faults.
+#[tactic(auto, using(crate::proofs::Scanned::scanned))]
 pub fn scan(text: &[u8]) -> Result<(), ScanFault>
     ensures answer { result ≡ refused_by scan_refusal (scan_faults text.now) }
     ensures parts { PartsOfTheText text.now }

@@ -1,5 +1,5 @@
 // The scanner: one token after another, or what is wrong in its place.
-ghost use Rattle.std.specs.Prelude.{◌≡◌, ℕ, ◌+◌, ◌<◌, ◌≤◌, length, drop};
+ghost use Rattle.std.specs.Prelude.{◌≡◌, ◌≤◌, length};
 ghost use Rattle.std.specs.Iterator.{YieldsFirstBy, item_count};
 ghost use Rattle.std.specs.List.{prefix_len};
 ghost use Rattle.scanner.specs.Bytes.{is_letter};
@@ -27,7 +27,8 @@ pub struct Scanner<'a> {
 
 // The length of the word at the front.
 fn word_length(bytes: &[u8]) -> usize
-    ensures { result ≡ prefix_len is_letter bytes.now }
+    ensures letters { result ≡ prefix_len is_letter bytes.now }
+    ensures within { result ≤ length bytes.now }
 {
     bytes
         .iter()
