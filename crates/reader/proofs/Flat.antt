@@ -1,13 +1,13 @@
 -- The tokens of a text without faults of nesting are those of its form, written out.
 use Rattle.std.proofs.Common.{◌≡◌, ℕ, ◌+◌, ◌-◌, ◌<◌, ◌≤◌, leb, List, [], ◌∷◌, ◌++◌, map, codes, sym, refl, ap, ◌∙◌, subst, ⊎_elim, append_assoc, arith}
 use Rattle.std.proofs.lemmas.List.{append-nil}
-use Rattle.std.proofs.lemmas.Bool.{cases_lt, leb-false, le-leb, lt-leb, cond-true, cond-false}
+use Rattle.std.proofs.lemmas.Bool.{leb-false}
 use Rattle.scanner.specs.Words.{Lexeme, opens, closes, name, number}
 use Rattle.reader.specs.Forms.{Forest, form, Pile, grow, first_list, other_lists}
 use Rattle.reader.specs.Nests.{nest_faults}
 use Rattle.reader.specs.Spelling.{Spelled, spelled, forest_spelled}
-use Rattle.reader.specs.declared.fault.FormFault.TheVariants.{NotOneForm, TooDeep}
-use Rattle.reader.specs.declared.nesting.Nesting.TheVariants.{Before, Inside, After}
+use Rattle.reader.specs.declared.fault.FormFault.TheVariants.{TooDeep}
+use Rattle.reader.specs.declared.nesting.Nesting.TheVariants.{Before, Inside}
 use Rattle.reader.proofs.Nested.{Around, closing, passed, inner, one_form}
 
 -- the lists around go on, each behind a closing parenthesis

@@ -6,7 +6,7 @@ use Rattle.scanner.specs.Words.{Lexeme, opens, closes, name, number}
 use Rattle.reader.specs.Forms.{Forest, none, form, Pile, grow, first_list, other_lists, size, depth}
 use Rattle.reader.specs.Nests.{nest_faults}
 use Rattle.reader.specs.declared.fault.FormFault.{FormFault}
-use Rattle.reader.specs.declared.fault.FormFault.TheVariants.{NotOneForm, TooDeep}
+use Rattle.reader.specs.declared.fault.FormFault.TheVariants.{TooDeep}
 use Rattle.reader.specs.declared.nesting.Nesting.TheVariants.{Before, Inside, After}
 
 -- with d parentheses open, what goes on in each list around is shallow, and nothing goes on in the outermost

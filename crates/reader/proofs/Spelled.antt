@@ -1,15 +1,15 @@
 -- The tokens of an accepted text are those of its definition.
-use Rattle.std.proofs.Common.{◌≡◌, ℕ, ◌+◌, Bool, true, false, cond, eqb, leb, List, [], ◌∷◌, ◌++◌, map, length, pos, Ok, codes, sym, refl, ap, ◌∙◌, subst, arith}
+use Rattle.std.proofs.Common.{◌≡◌, ℕ, ◌+◌, Bool, true, false, cond, eqb, leb, List, [], ◌∷◌, ◌++◌, map, length, pos, codes, sym, refl, ap, ◌∙◌, subst, arith}
 use lib.Signed.{le_z}
 use Rattle.std.proofs.lemmas.List.{append-nil}
 use Rattle.std.proofs.lemmas.Bool.{eqb-true, and_parts}
 use Rattle.scanner.specs.Faults.{scan_faults}
 use Rattle.scanner.specs.Scans.{lexemes_of}
-use Rattle.reader.specs.Definitions.{Defined, Kind, functions, globals, enumerations, others, kind, kind_faults, kind_defined, unless, names_in, formals_fit, locals_fit, function_fits, function_faults, function_defined, global_faults, global_defined, enumeration_fits, last_value, enumeration_faults, enumeration_defined, definition_faults, defined}
+use Rattle.reader.specs.Definitions.{Kind, functions, globals, enumerations, others, kind, kind_faults, kind_defined, unless, names_in, formals_fit, locals_fit, function_fits, function_faults, function_defined, global_faults, global_defined, enumeration_fits, last_value, enumeration_faults, enumeration_defined, definition_faults, defined}
 use Rattle.reader.specs.Faults.{faults, forms_of, shape_faults, first_defined}
 use Rattle.reader.specs.Forms.{Forest, none, named, numbered, form, grow, count, only_names, misfits}
 use Rattle.reader.specs.Keywords.{keyword}
-use Rattle.reader.specs.Nests.{first_of, nest_faults}
+use Rattle.reader.specs.Nests.{nest_faults}
 use Rattle.reader.specs.Spelling.{spelled, in_parentheses, forest_spelled, names_spelled, Spells, NothingIsLost}
 use Rattle.reader.specs.declared.fault.FormFault.{FormFault}
 use Rattle.reader.specs.declared.fault.FormFault.TheVariants.{Scan, NoShape, LastOutOfRange}

@@ -1,5 +1,5 @@
 -- The definition that the elements of a form make.
-use Rattle.std.specs.Prelude.{◌≡◌, ℕ, ◌+◌, ◌-◌, Bool, true, false, cond, ◌&&◌, List, [], ◌∷◌, ◌++◌, map, ℤ, pos, ◌+ℤ◌, Some, None, Ok, Err, Option, Result, ◌==◌, int_le, nat_le}
+use Rattle.std.specs.Prelude.{ℕ, ◌+◌, ◌-◌, Bool, true, false, cond, ◌&&◌, List, [], ◌∷◌, ◌++◌, map, ℤ, pos, ◌+ℤ◌, Some, None, Ok, Err, Option, Result, ◌==◌, int_le, nat_le}
 use Rattle.scanner.specs.declared.token.Word.{Word}
 use Rattle.reader.specs.Forms.{Forest, none, named, numbered, form, forest_ahead, tail, count, only_names, misfits}
 use Rattle.reader.specs.Keywords.{keyword}

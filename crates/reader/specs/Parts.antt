@@ -1,5 +1,5 @@
 -- What is taken from a form, part by part.
-use Rattle.std.specs.Prelude.{◌≡◌, ℕ, ◌+◌, Bool, false, ◌&&◌, List, Result, MatchResult, nat_le}
+use Rattle.std.specs.Prelude.{◌≡◌, ℕ, false, ◌&&◌, List, Result, MatchResult, nat_le}
 use Rattle.scanner.specs.declared.token.Word.{Word}
 use Rattle.reader.specs.Definitions.{Defined, unless, is_named, is_form, shown}
 use Rattle.reader.specs.Forms.{Forest, named, form, forest_ahead, survey}
