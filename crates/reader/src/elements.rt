@@ -1,5 +1,5 @@
 // The expression reader and the element-list reader, which call each other.
-ghost use Rattle.std.specs.Prelude.{◌≡◌, ℕ, ◌+◌, ◌-◌, ◌*◌, ◌<◌, ◌≤◌, true, ◌∷◌, length};
+ghost use Rattle.std.specs.Prelude.{◌≡◌, ◌+◌, ◌≤◌, true};
 ghost use Rattle.scanner.specs.Scans.{lexeme};
 ghost use Rattle.reader.specs.Forms.{begins, behind, both, count, fits, forest_ahead, leading, of_one, out, pile_ahead, pile_from, Readable, survey, survey_first};
 
@@ -47,7 +47,7 @@ impl Survey {
     }
 }
 
-// What stands next in a list.
+// What stands next in a list: a look ahead that takes nothing, and so no `From` of a token.
 fn leading_of(scanner: &Scanner) -> Leading
     ensures { result ≡ leading (forest_ahead scanner.now) }
 {

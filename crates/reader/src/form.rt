@@ -1,12 +1,12 @@
 // A form, part by part: each kind of definition from behind the head on.
-ghost use Rattle.std.specs.Prelude.{◌≡◌, ℕ, ◌+◌, ◌-◌, ◌<◌, ◌≤◌, length};
+ghost use Rattle.std.specs.Prelude.{◌≡◌, ◌-◌, pos, ◌+ℤ◌, int_le};
 ghost use Rattle.reader.specs.Forms.{forest_ahead, Readable};
 
 use crate::definition::{Definition, Enumeration, Function, Names};
 use crate::elements::elements;
 use crate::fault::FormFault;
 use crate::keyword::Keyword;
-use crate::list::{List, counts_in_range};
+use crate::list::List;
 use crate::nesting::DEEPEST;
 use scanner::scanner::Scanner;
 use scanner::token::{Token, Word};
@@ -15,7 +15,16 @@ const MOST_FORMALS: usize = 15;
 
 const MOST_VARIABLES: usize = 64;
 
-// A form from behind its opening parenthesis on, which stands at the place.
+const GREATEST: i128 = 8_388_607;
+
+// Whether the last of so many numbers is one that a text may say.
+fn counts_in_range(first: i32, count: usize) -> bool
+    ensures { result ≡ int_le (first +ℤ pos (count - 1)) (pos 8388607) }
+{
+    i128::from(first) + count.saturating_sub(1) as i128 <= GREATEST
+}
+
+// What is still to come of the form whose opening parenthesis stands at the place.
 #[derive(Clone, Copy)]
 pub(crate) struct Form<'a> {
     pub(crate) place: usize,
@@ -24,7 +33,6 @@ pub(crate) struct Form<'a> {
 }
 
 impl<'a> Form<'a> {
-    ghost use Rattle.std.specs.Prelude.{pos, ◌+ℤ◌, int_le};
     ghost use Rattle.reader.specs.Definitions.{defined, definition_faults, enumeration_defined, enumeration_faults, function_defined, function_faults, global_defined, global_faults};
     ghost use Rattle.reader.specs.Parts.{ReadsAs, TakesList, TakesName};
 
@@ -85,7 +93,7 @@ impl<'a> Form<'a> {
         Ok(Definition::Enumeration(Enumeration { first, names }))
     }
 
-    // Behind `def`: a name, the formals, the locals and the body. The whole comes first.
+    // Behind `def`: a name, the formals, the locals and the body. Faults of the whole come first.
     #[tactic(auto, using(crate::proofs::Misfits::first_misfit, crate::proofs::Misfits::no_misfit))]
     fn function(mut self) -> Result<Definition<'a>, FormFault>
         ensures { ReadsAs function_faults function_defined self.entry result }

@@ -25,7 +25,7 @@ pub enum Keyword {
 }
 
 impl Keyword {
-    // None if the word is neither.
+    // None if the word is neither: that is no error, and so no `TryFrom`.
     #[tactic(auto, unfolding(crate::specs::Keywords::keyword), using(crate::proofs::Words::keywords_read_back))]
     pub fn of(word: &[u8]) -> Option<Keyword>
         ensures answer { result ≡ keyword word.now }

@@ -1,13 +1,11 @@
-// A list of names in a form, and how far an enumeration counts.
-ghost use Rattle.std.specs.Prelude.{◌≡◌, ◌+◌, ◌-◌, pos, ◌+ℤ◌, int_le};
+// A list of names in a form.
+ghost use Rattle.std.specs.Prelude.{◌≡◌};
 ghost use Rattle.reader.specs.Nests.{first_of};
 ghost use Rattle.reader.specs.Parts.{list_faults};
 
 use crate::definition::Names;
 use crate::elements::Survey;
 use crate::fault::FormFault;
-
-const GREATEST: i128 = 8_388_607;
 
 // A list of names, its place, and what was found of its elements.
 #[derive(Clone, Copy)]
@@ -28,11 +26,4 @@ impl List<'_> {
             Err(FormFault::NoShape(self.place))
         }
     }
-}
-
-// Whether the last of so many numbers is one that a text may say.
-pub(crate) fn counts_in_range(first: i32, count: usize) -> bool
-    ensures { result ≡ int_le (first +ℤ pos (count - 1)) (pos 8388607) }
-{
-    i128::from(first) + count.saturating_sub(1) as i128 <= GREATEST
 }

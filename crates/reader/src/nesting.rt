@@ -1,6 +1,6 @@
 // Whether the tokens of a text are one closed form.
-ghost use Rattle.std.specs.Prelude.{◌≡◌, ℕ, ◌+◌, ◌-◌, ◌<◌, ◌≤◌, length};
-ghost use Rattle.scanner.specs.Scans.{ahead, lexeme, lexemes_of};
+ghost use Rattle.std.specs.Prelude.{◌≡◌, length};
+ghost use Rattle.scanner.specs.Scans.{lexeme, lexemes_of};
 ghost use Rattle.reader.specs.Nests.{first_of, nest_faults, turn, turn_faults};
 ghost use Rattle.reader.specs.declared.nesting.Nesting.TheVariants.{Before};
 

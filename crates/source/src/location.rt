@@ -1,5 +1,5 @@
 // The line and column of a place.
-ghost use Rattle.std.specs.Prelude.{◌≡◌, ◌+◌, ◌-◌, ◌≤◌, min, length};
+ghost use Rattle.std.specs.Prelude.{◌≡◌, ◌≤◌, length};
 ghost use Rattle.source.specs.Lines.{behind_feed, feeds, line_part, location};
 
 const LINE_FEED: u8 = b'\n';

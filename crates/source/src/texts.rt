@@ -1,8 +1,8 @@
 // Definitions in a file, one after another.
-ghost use Rattle.std.specs.Prelude.{◌≡◌, ℕ, ◌+◌, ◌-◌, ◌<◌, ◌≤◌, false, length, drop, IfSome};
-ghost use Rattle.std.specs.Option.{option_map};
-ghost use Rattle.scanner.specs.Scans.{ahead, lexemes_of};
+ghost use Rattle.std.specs.Prelude.{◌≡◌, ◌+◌, ◌-◌, ◌<◌, ◌≤◌, false, length, drop, IfSome};
 ghost use Rattle.std.specs.Iterator.{at_most};
+ghost use Rattle.std.specs.Option.{option_map};
+ghost use Rattle.scanner.specs.Scans.{lexemes_of};
 ghost use Rattle.source.specs.Cuts.{cut, first_text};
 ghost use Rattle.source.specs.Texts.{TakesText};
 
