@@ -1,14 +1,14 @@
 -- The tokens of a text without faults of nesting are those of its form, written out.
 use Rattle.std.proofs.Common.{◌≡◌, ℕ, ◌+◌, ◌-◌, ◌<◌, ◌≤◌, leb, List, [], ◌∷◌, ◌++◌, map, codes, sym, refl, ap, ◌∙◌, subst, ⊎_elim, append_assoc, arith}
 use Rattle.std.proofs.lemmas.List.{append-nil}
-use Rattle.std.proofs.lemmas.Bool.{cases_lt, leb-false, le-leb, lt-leb, cond-true, cond-false}
+use Rattle.std.proofs.lemmas.Bool.{leb-false}
 use Rattle.scanner.specs.Words.{Lexeme, opens, closes, name, number}
 use Rattle.reader.specs.Forms.{Forest, form, Pile, grow, first_list, other_lists}
 use Rattle.reader.specs.Nests.{nest_faults}
 use Rattle.reader.specs.Spelling.{Spelled, spelled, forest_spelled}
-use Rattle.reader.specs.declared.fault.FormFault.TheVariants.{NotOneForm, TooDeep}
-use Rattle.reader.specs.declared.nesting.Nesting.TheVariants.{Before, Inside, After}
-use Rattle.reader.proofs.Nested.{never, Around, over, passed, inner, one_form}
+use Rattle.reader.specs.declared.fault.FormFault.TheVariants.{TooDeep}
+use Rattle.reader.specs.declared.nesting.Nesting.TheVariants.{Before, Inside}
+use Rattle.reader.proofs.Nested.{Around, closing, passed, inner, one_form}
 
 -- the lists around go on, each behind a closing parenthesis
 abbrev around_spelled : List Forest → List Spelled
@@ -33,13 +33,9 @@ inner_spelled d e (opens p ∷ ls) some le ok =
 inner_spelled d e (closes p ∷ ls) some le ok =
     ap (λ v. codes ")" ∷ v)
     (⊎_elim
-    (λ more.
-    let ok' : nest_faults (Inside (d - 1)) e ls ≡ [] = sym (ap (λ s. nest_faults s e ls) (cond-false (leb d 1) After (Inside (d - 1)) (lt-leb d 1 more))) ∙ ok in
-    inner_spelled (d - 1) e ls (omega arith) (omega arith) ok')
-    (λ last.
-    let ok' : nest_faults After e ls ≡ [] = sym (ap (λ s. nest_faults s e ls) (cond-true (leb d 1) After (Inside (d - 1)) (le-leb d 1 last))) ∙ ok in
-    subst (λ l. map spelled l ≡ pile_spelled (grow l)) (sym (over e ls ok')) refl)
-    (cases_lt 1 d))
+    (λ more. inner_spelled (d - 1) e ls (omega arith) (omega arith) more.1)
+    (λ last. subst (λ l. map spelled l ≡ pile_spelled (grow l)) (sym last.1) refl)
+    (closing d e p ls ok))
 inner_spelled d e (name w p ∷ ls) some le ok = ap (λ v. w ∷ v) (inner_spelled d e ls some le ok)
 inner_spelled d e (number w v p ∷ ls) some le ok = ap (λ v. w ∷ v) (inner_spelled d e ls some le ok)
 
@@ -51,6 +47,6 @@ form_spelled e (opens p ∷ ls) ok =
     open_spelled 1 p (grow ls).here (grow ls).around (map spelled ls) i.around (inner_spelled 1 e ls (omega arith) (omega arith) ok)
     ∙ ap (λ fs. forest_spelled (grow (opens p ∷ ls)).here ++ around_spelled fs) alone
     ∙ append-nil (forest_spelled (grow (opens p ∷ ls)).here)
-form_spelled e (closes p ∷ ls) ok = never (NotOneForm p) _ ok
-form_spelled e (name w p ∷ ls) ok = never (NotOneForm p) _ ok
-form_spelled e (number w v p ∷ ls) ok = never (NotOneForm p) _ ok
+form_spelled e (closes p ∷ ls) ok = cc
+form_spelled e (name w p ∷ ls) ok = cc
+form_spelled e (number w v p ∷ ls) ok = cc

@@ -1,11 +1,12 @@
+pub mod Words
+pub mod Misfits
 mod Lists
-mod Functions
 pub mod Nested
 pub mod Order
 pub mod Whole
 mod Moves
-mod Spaced
+pub mod Spaced
 mod Flat
 mod Heads
 mod Values
-mod Spelled
+pub mod Spelled

@@ -1,21 +1,19 @@
 -- What a reader keeps as it goes through the elements of a list.
-use Rattle.std.proofs.Common.{◌≡◌, ℕ, ◌≤◌, Bool, true, false, Some, None, Option, refl, add-zero, add_assoc, arith}
-use Rattle.reader.specs.Forms.{Forest, none, named, numbered, form, Pile, tail, count, size, or, and_so, survey, survey_first, both, Readable}
+use Rattle.std.proofs.Common.{◌≡◌, ℕ, ◌≤◌, ◌&&◌, Bool, true, false, Some, None, Option, refl, add-zero, add_assoc, arith}
+use Rattle.std.specs.Option.{option_or}
+use Rattle.std.proofs.Math.Bool.{and_assoc}
+use Rattle.reader.specs.Forms.{Forest, none, named, numbered, form, Pile, tail, count, size, survey, survey_first, both, Readable}
 use Rattle.reader.specs.declared.elements.Survey.{Survey}
 
-or_assoc : (x y z : Option ℕ) → or (or x y) z ≡ or x (or y z)
+or_assoc : (x y z : Option ℕ) → option_or (option_or x y) z ≡ option_or x (option_or y z)
 or_assoc None y z = refl
 or_assoc (Some x) y z = refl
 
-or_none : (x : Option ℕ) → or x None ≡ x
+or_none : (x : Option ℕ) → option_or x None ≡ x
 or_none None = refl
 or_none (Some x) = refl
 
-and_assoc : (x y z : Bool) → and_so (and_so x y) z ≡ and_so x (and_so y z)
-and_assoc true y z = refl
-and_assoc false y z = refl
-
-and_true : (x : Bool) → and_so x true ≡ x
+and_true : (x : Bool) → (x && true) ≡ x
 and_true true = refl
 and_true false = refl
 

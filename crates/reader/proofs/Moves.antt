@@ -1,7 +1,9 @@
 -- What is found of a text moves with the places of its pieces.
 use Rattle.std.proofs.Common.{◌≡◌, ℕ, ◌+◌, ◌-◌, Bool, true, false, cond, ◌&&◌, eqb, ltb, leb, List, [], ◌∷◌, ◌++◌, map, length, ℤ, pos, ◌+ℤ◌, Some, None, Ok, Err, Option, refl, ap, ◌∙◌}
 use lib.Signed.{le_z}
-use Rattle.scanner.specs.Faults.{when, out_of_range, pieces_faults}
+use Rattle.std.proofs.lemmas.List.{map-append}
+use Rattle.std.proofs.lemmas.Simd.{map-map}
+use Rattle.scanner.specs.Faults.{when, pieces_faults}
 use Rattle.scanner.specs.Gaps.{at_place}
 use Rattle.scanner.specs.Pieces.{Piece, opening, closing, spelled, foreign}
 use Rattle.scanner.specs.Scans.{lexemes}
@@ -14,8 +16,7 @@ use Rattle.reader.specs.Keywords.{keyword}
 use Rattle.reader.specs.Nests.{first_of, nest_faults}
 use Rattle.reader.specs.Shapes.{shape, takes}
 use Rattle.reader.specs.Spacing.{scan_fault_at, fault_at, forest_at, name_at, defined_at, reading_at}
-use Rattle.reader.specs.declared.fault.FormFault.{FormFault}
-use Rattle.reader.specs.declared.fault.FormFault.TheVariants.{Scan, NotOneForm, TooDeep, NoShape, LastOutOfRange}
+use Rattle.reader.specs.declared.fault.FormFault.TheVariants.{Scan, NotOneForm, NoShape, LastOutOfRange}
 use Rattle.reader.specs.declared.nesting.Nesting.{Nesting}
 use Rattle.reader.specs.declared.nesting.Nesting.TheVariants.{Before, Inside, After}
 use Rattle.reader.specs.declared.shape.Shape.{Shape}
@@ -30,24 +31,25 @@ lexeme_at f (number w v p) = number w v (f p)
 abbrev pub pile_at : (ℕ → ℕ) → Pile → Pile
 pile_at f s = record { here = forest_at f s.here; around = map (forest_at f) s.around }
 
+map-when : {A B : Type 0} (g : A → B) (b : Bool) (x : A) → map g (when b x) ≡ when b (g x)
+map-when g true x = refl
+map-when g false x = refl
+
+map-cond : (g : ℕ → ℕ) (b : Bool) (xs ys : List ℕ) → map g (cond b xs ys) ≡ cond b (map g xs) (map g ys)
+map-cond g true xs ys = refl
+map-cond g false xs ys = refl
+
 module _ (f : ℕ → ℕ) where
   -- the scanner's faults
-  word_faults_move : (b c : Bool) (p : ℕ) (fs gs : List ScanFault) → gs ≡ map (scan_fault_at f) fs → (when b (WordTooLong (f p)) ++ when c (OutOfRange (f p))) ++ gs ≡ map (scan_fault_at f) ((when b (WordTooLong p) ++ when c (OutOfRange p)) ++ fs)
-  word_faults_move true true p fs gs e = ap (λ hs. WordTooLong (f p) ∷ OutOfRange (f p) ∷ hs) e
-  word_faults_move true false p fs gs e = ap (λ hs. WordTooLong (f p) ∷ hs) e
-  word_faults_move false true p fs gs e = ap (λ hs. OutOfRange (f p) ∷ hs) e
-  word_faults_move false false p fs gs e = e
-
   pub pieces_faults_move : (xs : List Piece) → pieces_faults (map (at_place f) xs) ≡ map (scan_fault_at f) (pieces_faults xs)
   pieces_faults_move [] = refl
   pieces_faults_move (opening p ∷ xs) = pieces_faults_move xs
   pieces_faults_move (closing p ∷ xs) = pieces_faults_move xs
-  pieces_faults_move (spelled w p ∷ xs) = word_faults_move (ltb 16 (length w)) (out_of_range (value w)) p (pieces_faults xs) (pieces_faults (map (at_place f) xs)) (pieces_faults_move xs)
+  pieces_faults_move (spelled w p ∷ xs) = simp (map-append, map-when, pieces_faults_move xs)
   pieces_faults_move (foreign b p ∷ xs) = ap (λ fs. ForeignByte (f p) ∷ fs) (pieces_faults_move xs)
 
   pub scans_move : (fs : List ScanFault) → map Scan (map (scan_fault_at f) fs) ≡ map (fault_at f) (map Scan fs)
-  scans_move [] = refl
-  scans_move (s ∷ fs) = ap (λ gs. Scan (scan_fault_at f s) ∷ gs) (scans_move fs)
+  scans_move fs = simp map-map
 
   -- the tokens
   number_moves : (b : Bool) (v : ℤ) (w : List ℕ) (p : ℕ) (is js : List Item) → lexemes js ≡ map (lexeme_at f) (lexemes is) → lexemes (cond b (Ok (number w v (f p))) (Err (OutOfRange (f p))) ∷ js) ≡ map (lexeme_at f) (lexemes (cond b (Ok (number w v p)) (Err (OutOfRange p)) ∷ is))
@@ -68,10 +70,6 @@ module _ (f : ℕ → ℕ) where
   lexemes_move (foreign b p ∷ xs) = lexemes_move xs
 
   -- the faults of nesting, in a text that ends at e
-  deep_moves : (b : Bool) (p : ℕ) (fs gs : List FormFault) → gs ≡ map (fault_at f) fs → when b (TooDeep (f p)) ++ gs ≡ map (fault_at f) (when b (TooDeep p) ++ fs)
-  deep_moves true p fs gs h = ap (λ hs. TooDeep (f p) ∷ hs) h
-  deep_moves false p fs gs h = h
-
   pub nest_faults_move : (s : Nesting) (e : ℕ) (ls : List Lexeme) → nest_faults s (f e) (map (lexeme_at f) ls) ≡ map (fault_at f) (nest_faults s e ls)
   nest_faults_move Before e [] = refl
   nest_faults_move (Inside d) e [] = refl
@@ -80,7 +78,7 @@ module _ (f : ℕ → ℕ) where
   nest_faults_move Before e (closes p ∷ ls) = ap (λ fs. NotOneForm (f p) ∷ fs) (nest_faults_move Before e ls)
   nest_faults_move Before e (name w p ∷ ls) = ap (λ fs. NotOneForm (f p) ∷ fs) (nest_faults_move Before e ls)
   nest_faults_move Before e (number w v p ∷ ls) = ap (λ fs. NotOneForm (f p) ∷ fs) (nest_faults_move Before e ls)
-  nest_faults_move (Inside d) e (opens p ∷ ls) = deep_moves (leb 32 d) p (nest_faults (Inside (d + 1)) e ls) (nest_faults (Inside (d + 1)) (f e) (map (lexeme_at f) ls)) (nest_faults_move (Inside (d + 1)) e ls)
+  nest_faults_move (Inside d) e (opens p ∷ ls) = simp (map-append, map-when, nest_faults_move (Inside (d + 1)) e ls)
   nest_faults_move (Inside d) e (closes p ∷ ls) = nest_faults_move (cond (leb d 1) After (Inside (d - 1))) e ls
   nest_faults_move (Inside d) e (name w p ∷ ls) = nest_faults_move (Inside d) e ls
   nest_faults_move (Inside d) e (number w v p ∷ ls) = nest_faults_move (Inside d) e ls
@@ -106,9 +104,9 @@ module _ (f : ℕ → ℕ) where
   -- what is found of elements
   count_kept : (t : Forest) → count (forest_at f t) ≡ count t
   count_kept none = refl
-  count_kept (named w p rest) = ap (λ n. 1 + n) (count_kept rest)
-  count_kept (numbered w v p rest) = ap (λ n. 1 + n) (count_kept rest)
-  count_kept (form p inner rest) = ap (λ n. 1 + n) (count_kept rest)
+  count_kept (named w p rest) = simp (count_kept rest)
+  count_kept (numbered w v p rest) = simp (count_kept rest)
+  count_kept (form p inner rest) = simp (count_kept rest)
 
   leading_kept : (t : Forest) → leading (forest_at f t) ≡ leading t
   leading_kept none = refl
@@ -132,18 +130,11 @@ module _ (f : ℕ → ℕ) where
   fits_kept (numbered w v p rest) = refl
   fits_kept (form p inner rest) = refl
 
-  own_moves : (b : Bool) (p : ℕ) (xs ys : List ℕ) → cond b (map f xs) (f p ∷ []) ++ map f ys ≡ map f (cond b xs (p ∷ []) ++ ys)
-  own_moves true p [] ys = refl
-  own_moves true p (x ∷ xs) ys = ap (λ zs. f x ∷ zs) (own_moves true p xs ys)
-  own_moves false p xs ys = refl
-
   misfits_move : (t : Forest) → misfits (forest_at f t) ≡ map f (misfits t)
   misfits_move none = refl
   misfits_move (named w p rest) = misfits_move rest
   misfits_move (numbered w v p rest) = misfits_move rest
-  misfits_move (form p inner rest) =
-      (λ i. cond (fits_kept inner i) (misfits_move inner i) (f p ∷ []) ++ misfits_move rest i)
-      ∙ own_moves (fits inner) p (misfits inner) (misfits rest)
+  misfits_move (form p inner rest) = simp (map-append, map-cond, fits_kept inner, misfits_move inner, misfits_move rest)
 
   names_move : (t : Forest) → names_in (forest_at f t) ≡ map (name_at f) (names_in t)
   names_move none = refl

@@ -46,19 +46,26 @@ module _ (k n p x : ℕ) (f : FormFault) (fs : List FormFault) (pass_is : (form_
   climbs_unless true = climbs_past
   climbs_unless false = climbs_on
 
+module _ (p x : ℕ) (fs : List FormFault) (le : x ≤ 32 * p) (h : Climbing form_refusal 3 (32 * (p + 1)) fs) where
+  stray : Climbing form_refusal 3 x (NotOneForm p ∷ fs)
+  stray = climbs_on 3 5 p x (NotOneForm p) fs refl refl refl (omega arith) le h
+
+  fine : Climbing form_refusal 3 x fs
+  fine = climbing_lower form_refusal 3 x (32 * (p + 1)) fs (omega arith) h
+
 turn_climbs : (s : Nesting) (l : Lexeme) (x : ℕ) (fs : List FormFault) → x ≤ 32 * lexeme_place l → Climbing form_refusal 3 (32 * (lexeme_place l + 1)) fs → Climbing form_refusal 3 x (turn_faults s l ++ fs)
-turn_climbs Before (opens p) x fs le h = climbs_past 3 5 p x (NotOneForm p) fs refl refl refl (omega arith) le h
-turn_climbs Before (closes p) x fs le h = climbs_on 3 5 p x (NotOneForm p) fs refl refl refl (omega arith) le h
-turn_climbs Before (name w p) x fs le h = climbs_on 3 5 p x (NotOneForm p) fs refl refl refl (omega arith) le h
-turn_climbs Before (number w v p) x fs le h = climbs_on 3 5 p x (NotOneForm p) fs refl refl refl (omega arith) le h
+turn_climbs Before (opens p) x fs le h = fine p x fs le h
+turn_climbs Before (closes p) x fs le h = stray p x fs le h
+turn_climbs Before (name w p) x fs le h = stray p x fs le h
+turn_climbs Before (number w v p) x fs le h = stray p x fs le h
 turn_climbs (Inside d) (opens p) x fs le h = climbs_when 3 6 p x (TooDeep p) fs refl refl refl (omega arith) le h (leb 32 d)
-turn_climbs (Inside d) (closes p) x fs le h = climbs_past 3 5 p x (NotOneForm p) fs refl refl refl (omega arith) le h
-turn_climbs (Inside d) (name w p) x fs le h = climbs_past 3 5 p x (NotOneForm p) fs refl refl refl (omega arith) le h
-turn_climbs (Inside d) (number w v p) x fs le h = climbs_past 3 5 p x (NotOneForm p) fs refl refl refl (omega arith) le h
-turn_climbs After (opens p) x fs le h = climbs_on 3 5 p x (NotOneForm p) fs refl refl refl (omega arith) le h
-turn_climbs After (closes p) x fs le h = climbs_on 3 5 p x (NotOneForm p) fs refl refl refl (omega arith) le h
-turn_climbs After (name w p) x fs le h = climbs_on 3 5 p x (NotOneForm p) fs refl refl refl (omega arith) le h
-turn_climbs After (number w v p) x fs le h = climbs_on 3 5 p x (NotOneForm p) fs refl refl refl (omega arith) le h
+turn_climbs (Inside d) (closes p) x fs le h = fine p x fs le h
+turn_climbs (Inside d) (name w p) x fs le h = fine p x fs le h
+turn_climbs (Inside d) (number w v p) x fs le h = fine p x fs le h
+turn_climbs After (opens p) x fs le h = stray p x fs le h
+turn_climbs After (closes p) x fs le h = stray p x fs le h
+turn_climbs After (name w p) x fs le h = stray p x fs le h
+turn_climbs After (number w v p) x fs le h = stray p x fs le h
 
 end_climbs : (s : Nesting) (p e : ℕ) → p ≤ e → Climbing form_refusal 3 (32 * p) (end_faults s e)
 end_climbs Before p e le = (refl, omega arith, omega arith, tt)

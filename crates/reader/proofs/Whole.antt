@@ -24,56 +24,57 @@ chosen_first : (fs : List FormFault) (d : Defined) → chosen (first fs) d ≡ f
 chosen_first [] d = refl
 chosen_first (f ∷ fs) d = refl
 
+refused_first : (fs : List ScanFault) → refused (first fs) ≡ first_of fs (tt {0})
+refused_first [] = refl
+refused_first (f ∷ fs) = refl
+
+scan_begins : (fs : List ScanFault) (f : ScanFault) → first_of fs (tt {0}) ≡ Err f → first_of (map Scan fs) (tt {0}) ≡ Err (Scan f)
+scan_begins [] f h = cc
+scan_begins (g ∷ fs) f h = let same : g ≡ f = cc in ap (λ g. Err (Scan g)) same
+
+-- what is first stays first where more is listed behind it
+begins : {X Y : Type 0} (fs gs : List FormFault) (x : X) (y : Y) (f : FormFault) → first_of fs x ≡ Err f → first_of (fs ++ gs) y ≡ Err f
+begins [] gs x y f h = cc
+begins (g ∷ fs) gs x y f h = let same : g ≡ f = cc in ap Err same
+
+pub accepted : {F X : Type 0} (fs : List F) (x d : X) → first_of fs x ≡ Ok d → (fs ≡ []) × (x ≡ d)
+accepted [] x d h = (refl, cc)
+accepted (f ∷ fs) x d h = cc
+
 module _ (text : List ℕ) where
   -- the first fault is the least
   pub reading_first : reading text ≡ first_of (faults text) (first_defined (forms_of text))
   reading_first = ap (λ o. chosen o (first_defined (forms_of text))) (least_first form_refusal (faults text) (faults_ascend text)) ∙ chosen_first (faults text) (first_defined (forms_of text))
 
-  scan_first : refused_by scan_refusal (scan_faults text) ≡ refused (first (scan_faults text))
-  scan_first = ap refused (least_first scan_refusal (scan_faults text) (scan_ascends text))
+  scan_first : refused_by scan_refusal (scan_faults text) ≡ first_of (scan_faults text) (tt {0})
+  scan_first = ap refused (least_first scan_refusal (scan_faults text) (scan_ascends text)) ∙ refused_first (scan_faults text)
 
   -- the scanner finds a fault
   pub scan_refuses : (f : ScanFault) → Err f ≡ refused_by scan_refusal (scan_faults text) → reading text ≡ Err (Scan f)
-  scan_refuses f e = reading_first ∙ begins (scan_faults text) _ (sym scan_first ∙ sym e)
-    where
-      begins : (fs : List ScanFault) (gs : List FormFault) → refused (first fs) ≡ Err f → first_of (map Scan fs ++ gs) (first_defined (forms_of text)) ≡ Err (Scan f)
-      begins [] gs h = let z : ◌≡◌ {A = ℕ} 0 1 = cc in absurd (omega arith)
-      begins (g ∷ fs) gs h = let same : g ≡ f = cc in ap (λ g. Err (Scan g)) same
+  scan_refuses f e = reading_first ∙ begins (map Scan (scan_faults text)) _ (tt {0}) _ (Scan f) (scan_begins (scan_faults text) f (sym scan_first ∙ sym e))
 
   -- it finds none
   module _ (ok : Ok tt ≡ refused_by scan_refusal (scan_faults text)) where
     no_scan_fault : scan_faults text ≡ []
-    no_scan_fault = none (scan_faults text) (sym scan_first ∙ sym ok)
-      where
-        none : (fs : List ScanFault) → refused (first fs) ≡ Ok tt → fs ≡ []
-        none [] h = refl
-        none (f ∷ fs) h = let z : ◌≡◌ {A = ℕ} 0 1 = cc in absurd (omega arith)
+    no_scan_fault = (accepted (scan_faults text) _ _ (sym scan_first ∙ sym ok)).0
 
     short : length text ≤ 8192
     short = ltb-false 8192 (length text) (no_length_fault (ltb 8192 (length text)) (pieces_faults (pieces_of text)) no_scan_fault)
       where
         no_length_fault : (b : Bool) (fs : List ScanFault) → when b TextTooLong ++ fs ≡ [] → b ≡ false
-        no_length_fault true fs h = let z : ◌≡◌ {A = ℕ} 0 1 = cc in absurd (omega arith)
+        no_length_fault true fs h = cc
         no_length_fault false fs h = refl
 
     past_scan : reading text ≡ first_of (nest_faults Before (length text) (lexemes_of text) ++ shape_faults (forms_of text)) (first_defined (forms_of text))
     past_scan = reading_first ∙ ap (λ fs. first_of (map Scan fs ++ (nest_faults Before (length text) (lexemes_of text) ++ shape_faults (forms_of text))) (first_defined (forms_of text))) no_scan_fault
 
     pub nest_refuses : (f : FormFault) → Err f ≡ first_of (nest_faults Before (length text) (lexemes_of text)) (tt {0}) → reading text ≡ Err f
-    nest_refuses f e = past_scan ∙ begins (nest_faults Before (length text) (lexemes_of text)) _ (sym e)
-      where
-        begins : (fs gs : List FormFault) → first_of fs (tt {0}) ≡ Err f → first_of (fs ++ gs) (first_defined (forms_of text)) ≡ Err f
-        begins [] gs h = let z : ◌≡◌ {A = ℕ} 0 1 = cc in absurd (omega arith)
-        begins (g ∷ fs) gs h = let same : g ≡ f = cc in ap Err same
+    nest_refuses f e = past_scan ∙ begins (nest_faults Before (length text) (lexemes_of text)) _ (tt {0}) _ f (sym e)
 
     -- neither finds one
     module _ (nested : Ok tt ≡ first_of (nest_faults Before (length text) (lexemes_of text)) (tt {0})) where
       no_nest_fault : nest_faults Before (length text) (lexemes_of text) ≡ []
-      no_nest_fault = none (nest_faults Before (length text) (lexemes_of text)) (sym nested)
-        where
-          none : (fs : List FormFault) → first_of fs (tt {0}) ≡ Ok tt → fs ≡ []
-          none [] h = refl
-          none (f ∷ fs) h = let z : ◌≡◌ {A = ℕ} 0 1 = cc in absurd (omega arith)
+      no_nest_fault = (accepted (nest_faults Before (length text) (lexemes_of text)) _ _ (sym nested)).0
 
       -- the tokens are an opening parenthesis and others
       module _ (p : ℕ) (rest : List Lexeme) (begins : lexemes_of text ≡ opens p ∷ rest) where

@@ -1,8 +1,7 @@
 -- The definition that the elements of a form make.
-use Rattle.std.specs.Prelude.{◌≡◌, ℕ, ◌+◌, ◌-◌, Bool, true, false, cond, ◌&&◌, List, [], ◌∷◌, ◌++◌, map, ℤ, pos, ◌+ℤ◌, Some, None, Ok, Err, Option, Result, ◌==◌, int_le, nat_le}
-use Rattle.scanner.specs.Scans.{ahead}
+use Rattle.std.specs.Prelude.{ℕ, ◌+◌, ◌-◌, Bool, true, false, cond, ◌&&◌, List, [], ◌∷◌, ◌++◌, map, ℤ, pos, ◌+ℤ◌, Some, None, Ok, Err, Option, Result, ◌==◌, int_le, nat_le}
 use Rattle.scanner.specs.declared.token.Word.{Word}
-use Rattle.reader.specs.Forms.{Forest, none, named, numbered, form, grow, tail, count, only_names, misfits}
+use Rattle.reader.specs.Forms.{Forest, none, named, numbered, form, forest_ahead, tail, count, only_names, misfits}
 use Rattle.reader.specs.Keywords.{keyword}
 use Rattle.reader.specs.declared.definition.Definition.{Definition}
 use Rattle.reader.specs.declared.definition.Definition.TheVariants.{Function, Global, Enumeration}
@@ -185,10 +184,10 @@ abbrev pub word_of : Word → Named
 word_of w = a_name w.bytes.now w.place
 
 abbrev pub names_of : Names → List Named
-names_of ns = names_in (grow (ahead ns.list)).here
+names_of ns = names_in (forest_ahead ns.list)
 
 abbrev pub shown_function : code.Function → Defined
-shown_function f = function (word_of f.name) (names_of f.formals) (names_of f.locals) (grow (ahead f.body)).here
+shown_function f = function (word_of f.name) (names_of f.formals) (names_of f.locals) (forest_ahead f.body)
 
 abbrev pub shown_definition : Definition → Defined
 shown_definition (Function f) = shown_function f
@@ -199,7 +198,8 @@ abbrev pub shown : Result Definition FormFault → Result Defined FormFault
 shown (Ok d) = Ok (shown_definition d)
 shown (Err f) = Err f
 
--- r is the first of the names, and `rest` are the others
-abbrev pub Taken : List Named → Option Word → List Named → Type 0
-Taken ns None rest = (ns ≡ []) × (rest ≡ [])
-Taken ns (Some w) rest = ns ≡ word_of w ∷ rest
+-- the word with which the form of a definition begins
+abbrev pub keyword_of : Definition → Keyword
+keyword_of (Function f) = Def
+keyword_of (Global w) = Let
+keyword_of (Enumeration e) = Enum

@@ -1,6 +1,6 @@
 -- All faults of a text, and what it is read as.
-use Rattle.std.specs.Prelude.{ℕ, List, [], ◌++◌, map, length, Some, None, Ok, Err, Option, Result}
-use Rattle.scanner.specs.Faults.{refusal, scan_refusal, scan_faults, least}
+use Rattle.std.specs.Prelude.{ℕ, List, [], ◌++◌, map, length, codes, Some, None, Ok, Err, Option, Result}
+use Rattle.scanner.specs.Faults.{refusal, scan_refusal, scan_words, scan_faults, least}
 use Rattle.scanner.specs.Scans.{lexemes_of}
 use Rattle.scanner.specs.declared.fault.Refusal.{Refusal}
 use Rattle.reader.specs.Definitions.{Defined, global, a_name, definition_faults, defined}
@@ -17,6 +17,14 @@ form_refusal (NotOneForm p) = refusal 5 p 3
 form_refusal (TooDeep p) = refusal 6 p 3
 form_refusal (NoShape p) = refusal 7 p 4
 form_refusal (LastOutOfRange p) = refusal 4 p 4
+
+-- what is wrong, in words
+abbrev pub form_words : FormFault → List ℕ
+form_words (Scan f) = scan_words f
+form_words (NotOneForm p) = codes "this belongs to no form"
+form_words (TooDeep p) = codes "with this one over 32 parentheses are open"
+form_words (NoShape p) = codes "this form or list fits no shape"
+form_words (LastOutOfRange p) = codes "the last name of this enumeration would stand for more than 8,388,607"
 
 -- the elements of a text, of which the first is its form
 abbrev pub forms_of : List ℕ → Forest

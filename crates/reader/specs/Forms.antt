@@ -1,5 +1,9 @@
 -- The forms that the tokens of a text make.
-use Rattle.std.specs.Prelude.{ℕ, ◌+◌, ◌≤◌, max, Bool, true, false, cond, List, [], ◌∷◌, ◌++◌, ℤ, Some, None, Option}
+use Rattle.std.specs.Prelude.{ℕ, ◌+◌, ◌≤◌, max, Bool, true, false, cond, ◌&&◌, List, [], ◌∷◌, ◌++◌, ℤ, Some, None, Option}
+use Rattle.std.specs.Option.{option_or}
+use Rattle.scanner.specs.Scans.{ahead, lexeme}
+use Rattle.scanner.specs.declared.scanner.Scanner.{Scanner}
+use Rattle.scanner.specs.declared.token.Token.{Token}
 use Rattle.scanner.specs.Words.{Lexeme, opens, closes, name, number}
 use Rattle.reader.specs.Keywords.{keyword}
 use Rattle.reader.specs.Shapes.{shape, takes}
@@ -38,6 +42,17 @@ grow (opens p ∷ ls) = record { here = form p (grow ls).here (out (grow ls)).he
 grow (closes p ∷ ls) = record { here = none; around = (grow ls).here ∷ (grow ls).around }
 grow (name w p ∷ ls) = record { here = named w p (grow ls).here; around = (grow ls).around }
 grow (number w v p ∷ ls) = record { here = numbered w v p (grow ls).here; around = (grow ls).around }
+
+-- what the tokens that a scanner has still to give make, and their elements
+abbrev pub pile_ahead : Scanner → Pile
+pile_ahead s = grow (ahead s)
+
+abbrev pub forest_ahead : Scanner → Forest
+forest_ahead s = (pile_ahead s).here
+
+-- the same from a token on that was taken from it
+abbrev pub pile_from : Token → Scanner → Pile
+pile_from t s = grow (lexeme t ∷ ahead s)
 
 abbrev pub tail : Forest → Forest
 tail none = none
@@ -100,32 +115,29 @@ misfits (numbered w v p rest) = misfits rest
 misfits (form p f rest) = cond (fits f) (misfits f) (p ∷ []) ++ misfits rest
 
 -- the first of them, as it is found on one way through the elements
-abbrev pub or : Option ℕ → Option ℕ → Option ℕ
-or None y = y
-or (Some x) y = Some x
-
 abbrev pub misfit : Forest → Option ℕ
 misfit none = None
 misfit (named w p rest) = misfit rest
 misfit (numbered w v p rest) = misfit rest
-misfit (form p f rest) = or (cond (fits f) (misfit f) (Some p)) (misfit rest)
+misfit (form p f rest) = option_or (cond (fits f) (misfit f) (Some p)) (misfit rest)
 
 -- what is found of elements, and of elements before others
 abbrev pub survey : Forest → Survey
 survey f = record { count = count f; only_names = only_names f; misfit = misfit f }
 
-abbrev pub and_so : Bool → Bool → Bool
-and_so a b = cond a b false
-
 abbrev pub both : Survey → Survey → Survey
-both a b = record { count = a.count + b.count; only_names = and_so a.only_names b.only_names; misfit = or a.misfit b.misfit }
+both a b = record { count = a.count + b.count; only_names = a.only_names && b.only_names; misfit = option_or a.misfit b.misfit }
+
+-- what is found of one element
+abbrev pub of_one : Bool → Option ℕ → Survey
+of_one is_name misfit = record { count = 1; only_names = is_name; misfit = misfit }
 
 -- what is found of the first element
 abbrev pub survey_first : Forest → Survey
 survey_first none = survey none
-survey_first (named w p rest) = record { count = 1; only_names = true; misfit = None }
-survey_first (numbered w v p rest) = record { count = 1; only_names = false; misfit = None }
-survey_first (form p f rest) = record { count = 1; only_names = false; misfit = cond (fits f) (misfit f) (Some p) }
+survey_first (named w p rest) = of_one true None
+survey_first (numbered w v p rest) = of_one false None
+survey_first (form p f rest) = of_one false (cond (fits f) (misfit f) (Some p))
 
 -- a token that is an element or begins one
 abbrev pub begins : Lexeme → Bool

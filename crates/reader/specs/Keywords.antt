@@ -1,5 +1,5 @@
 -- The eleven reserved words and the five operators.
-use Rattle.std.specs.Prelude.{ℕ, ◌+◌, Bool, true, cond, ◌&&◌, List, [], ◌∷◌, length, Some, None, codes, Option, ◌==◌, slice_index}
+use Rattle.std.specs.Prelude.{◌≡◌, ℕ, ◌+◌, Bool, true, cond, ◌&&◌, List, [], ◌∷◌, length, Some, None, codes, Option, ◌==◌, slice_index}
 use Rattle.reader.specs.declared.keyword.Keyword.{Keyword}
 use Rattle.reader.specs.declared.keyword.Keyword.TheVariants.{Def, Let, Enum, If, While, Do, Set, Vec, Setv, New, Sys, Add, Sub, Eq, Lt, Gt}
 
@@ -33,3 +33,26 @@ keyword_in w =
 -- what a word is as the head of a form
 unfoldable pub keyword : List ℕ → Option Keyword
 keyword w = keyword_in w
+
+-- the word of each
+abbrev pub keyword_word : Keyword → List ℕ
+keyword_word Def = codes "def"
+keyword_word Let = codes "let"
+keyword_word Enum = codes "enum"
+keyword_word If = codes "if"
+keyword_word While = codes "while"
+keyword_word Do = codes "do"
+keyword_word Set = codes "set"
+keyword_word Vec = codes "vec"
+keyword_word Setv = codes "setv"
+keyword_word New = codes "new"
+keyword_word Sys = codes "sys"
+keyword_word Add = codes "+"
+keyword_word Sub = codes "-"
+keyword_word Eq = codes "="
+keyword_word Lt = codes "<"
+keyword_word Gt = codes ">"
+
+-- each is what its own word is
+abbrev pub KeywordsReadBack : Type 0
+KeywordsReadBack = (k : Keyword) → keyword (keyword_word k) ≡ Some k

@@ -1,7 +1,9 @@
 // What the text of a definition says. All of it borrows from the text.
 ghost use Rattle.std.specs.Prelude.{◌≡◌};
-ghost use Rattle.reader.specs.Definitions.{names_of, Taken};
+ghost use Rattle.std.specs.Iterator.{item_count, YieldsFirstBy};
+ghost use Rattle.reader.specs.Definitions.{keyword_of, names_of, word_of};
 
+use crate::keyword::Keyword;
 use scanner::scanner::Scanner;
 use scanner::token::{Token, Word};
 
@@ -34,17 +36,32 @@ pub enum Definition<'a> {
     Enumeration(Enumeration<'a>),
 }
 
-impl<'a> Names<'a> {
-    pub fn next(&mut self) -> Option<Word<'a>>
-        ensures { Taken (names_of self.old) result (names_of self.new) }
-    {
+impl<'a> Iterator for Names<'a> {
+    type Item = Word<'a>;
+
+    ghost next_gives = { YieldsFirstBy word_of names_of };
+
+    ghost remaining = { item_count names_of };
+
+    fn next(&mut self) -> Option<Word<'a>> {
         let mut ahead = self.list;
-        match ahead.token() {
-            Some(Token::Name(word)) => {
-                self.list = ahead;
-                Some(word)
-            }
-            _ => None,
+        let Some(Token::Name(word)) = ahead.token() else {
+            return None;
+        };
+        self.list = ahead;
+        Some(word)
+    }
+}
+
+impl Definition<'_> {
+    // The word with which its form begins.
+    pub fn keyword(&self) -> Keyword
+        ensures { result ≡ keyword_of self.now }
+    {
+        match self {
+            Definition::Function(_) => Keyword::Def,
+            Definition::Global(_) => Keyword::Let,
+            Definition::Enumeration(_) => Keyword::Enum,
         }
     }
 }

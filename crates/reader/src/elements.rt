@@ -1,7 +1,7 @@
 // The expression reader and the element-list reader, which call each other.
-ghost use Rattle.std.specs.Prelude.{◌≡◌, ℕ, ◌+◌, ◌-◌, ◌*◌, ◌<◌, ◌≤◌, true, ◌∷◌, length};
-ghost use Rattle.scanner.specs.Scans.{ahead, lexeme};
-ghost use Rattle.reader.specs.Forms.{begins, behind, both, count, fits, grow, leading, or, out, Readable, survey, survey_first};
+ghost use Rattle.std.specs.Prelude.{◌≡◌, ◌+◌, ◌≤◌, true};
+ghost use Rattle.scanner.specs.Scans.{lexeme};
+ghost use Rattle.reader.specs.Forms.{begins, behind, both, count, fits, forest_ahead, leading, of_one, out, pile_ahead, pile_from, Readable, survey, survey_first};
 
 use crate::keyword::Keyword;
 use crate::shape::{Leading, shape_of};
@@ -16,15 +16,6 @@ pub(crate) struct Survey {
     pub(crate) misfit: Option<usize>,
 }
 
-fn earlier(first: Option<usize>, second: Option<usize>) -> Option<usize>
-    ensures { result ≡ or first second }
-{
-    match first {
-        None => second,
-        found => found,
-    }
-}
-
 impl Survey {
     const NOTHING: Survey = Survey {
         count: 0,
@@ -32,17 +23,16 @@ impl Survey {
         misfit: None,
     };
 
-    const NAME: Survey = Survey {
-        count: 1,
-        only_names: true,
-        misfit: None,
-    };
-
-    const NUMBER: Survey = Survey {
-        count: 1,
-        only_names: false,
-        misfit: None,
-    };
+    // Of one element.
+    fn of_one(is_name: bool, misfit: Option<usize>) -> Survey
+        ensures { result ≡ of_one is_name misfit }
+    {
+        Survey {
+            count: 1,
+            only_names: is_name,
+            misfit,
+        }
+    }
 
     // This, and then `next`.
     fn and(self, next: Survey) -> Survey
@@ -51,19 +41,15 @@ impl Survey {
     {
         Survey {
             count: self.count + next.count,
-            only_names: if self.only_names {
-                next.only_names
-            } else {
-                false
-            },
-            misfit: earlier(self.misfit, next.misfit),
+            only_names: self.only_names && next.only_names,
+            misfit: self.misfit.or(next.misfit),
         }
     }
 }
 
-// What stands next in a list.
+// What stands next in a list: a look ahead that takes nothing, and so no `From` of a token.
 fn leading_of(scanner: &Scanner) -> Leading
-    ensures { result ≡ leading (grow (ahead scanner.now)).here }
+    ensures { result ≡ leading (forest_ahead scanner.now) }
 {
     let mut scanner = *scanner;
     match scanner.token() {
@@ -76,30 +62,28 @@ fn leading_of(scanner: &Scanner) -> Leading
 
 // Whether the elements of a form, of which there are so many, make an expression.
 fn has_shape(elements: &Scanner, number: usize) -> bool
-    requires { number ≡ count (grow (ahead elements.now)).here }
-    ensures { result ≡ fits (grow (ahead elements.now)).here }
+    requires { number ≡ count (forest_ahead elements.now) }
+    ensures { result ≡ fits (forest_ahead elements.now) }
 {
     let mut scanner = *elements;
     let Some(Token::Name(head)) = scanner.token() else {
         return false;
     };
-    let Some(shape) = shape_of(Keyword::of(head.bytes)) else {
-        return false;
-    };
-    shape.takes(leading_of(&scanner), number - 1)
+    let leading = leading_of(&scanner);
+    shape_of(Keyword::of(head.bytes)).is_some_and(|shape| shape.takes(leading, number - 1))
 }
 
 // Reads the elements of a list up to its closing parenthesis, of which `room` may be opened.
 #[cycle(elements_expression)]
 pub(crate) fn elements(scanner: &mut Scanner, room: u32) -> Survey
-    requires { Readable room (grow (ahead scanner.old)).here }
-    ensures found { result ≡ survey (grow (ahead scanner.old)).here }
-    ensures past { grow (ahead scanner.new) ≡ out (grow (ahead scanner.old)) }
+    requires { Readable room (forest_ahead scanner.old) }
+    ensures found { result ≡ survey (forest_ahead scanner.old) }
+    ensures past { pile_ahead scanner.new ≡ out (pile_ahead scanner.old) }
 {
     let mut found = Survey::NOTHING;
     while let Some(token) = scanner.token() {
-        if let Token::Close(_) = token {
-            return found;
+        if matches!(token, Token::Close(_)) {
+            break;
         }
         found = found.and(expression(scanner, token, room));
     }
@@ -110,23 +94,19 @@ pub(crate) fn elements(scanner: &mut Scanner, room: u32) -> Survey
 #[cycle(elements_expression)]
 pub(crate) fn expression(scanner: &mut Scanner, token: Token, room: u32) -> Survey
     requires begins { begins (lexeme token) ≡ true }
-    requires readable { Readable room (grow (lexeme token ∷ ahead scanner.old)).here }
-    ensures found { result ≡ survey_first (grow (lexeme token.entry ∷ ahead scanner.old)).here }
-    ensures past { grow (ahead scanner.new) ≡ behind (grow (lexeme token.entry ∷ ahead scanner.old)) }
+    requires readable { Readable room (pile_from token scanner.old).here }
+    ensures found { result ≡ survey_first (pile_from token.entry scanner.old).here }
+    ensures past { pile_ahead scanner.new ≡ behind (pile_from token.entry scanner.old) }
 {
     match token {
-        Token::Name(_) => Survey::NAME,
-        Token::Number(..) => Survey::NUMBER,
+        Token::Name(_) => Survey::of_one(true, None),
+        Token::Number(..) => Survey::of_one(false, None),
         Token::Close(_) => Survey::NOTHING,
         Token::Open(place) => {
             let start = *scanner;
             let inside = elements(scanner, room - 1);
             let fits = has_shape(&start, inside.count);
-            Survey {
-                count: 1,
-                only_names: false,
-                misfit: if fits { inside.misfit } else { Some(place) },
-            }
+            Survey::of_one(false, if fits { inside.misfit } else { Some(place) })
         }
     }
 }

@@ -4,7 +4,9 @@
 pub mod definition;
 pub mod elements;
 pub mod fault;
+mod form;
 pub mod keyword;
+mod list;
 pub mod nesting;
 pub mod read;
 pub mod shape;

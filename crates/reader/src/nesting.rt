@@ -1,6 +1,6 @@
 // Whether the tokens of a text are one closed form.
-ghost use Rattle.std.specs.Prelude.{◌≡◌, ℕ, ◌+◌, ◌-◌, ◌<◌, ◌≤◌, length};
-ghost use Rattle.scanner.specs.Scans.{ahead, lexeme, lexemes_of};
+ghost use Rattle.std.specs.Prelude.{◌≡◌, length};
+ghost use Rattle.scanner.specs.Scans.{lexeme, lexemes_of};
 ghost use Rattle.reader.specs.Nests.{first_of, nest_faults, turn, turn_faults};
 ghost use Rattle.reader.specs.declared.nesting.Nesting.TheVariants.{Before};
 
@@ -26,21 +26,16 @@ impl Nesting {
     {
         match (self, token) {
             (Nesting::Before, Token::Open(_)) => Ok(Nesting::Inside(1)),
-            (Nesting::Inside(open), Token::Open(place)) => {
-                if open >= DEEPEST {
-                    return Err(FormFault::TooDeep(place));
-                }
-                Ok(Nesting::Inside(open + 1))
+            (Nesting::Inside(open), Token::Open(place)) if open >= DEEPEST => {
+                Err(FormFault::TooDeep(place))
             }
-            (Nesting::Inside(open), Token::Close(_)) => {
-                if open <= 1 {
-                    return Ok(Nesting::After);
-                }
-                Ok(Nesting::Inside(open - 1))
-            }
+            (Nesting::Inside(open), Token::Open(_)) => Ok(Nesting::Inside(open + 1)),
+            (Nesting::Inside(open), Token::Close(_)) if open <= 1 => Ok(Nesting::After),
+            (Nesting::Inside(open), Token::Close(_)) => Ok(Nesting::Inside(open - 1)),
             (Nesting::Inside(_), Token::Name(_) | Token::Number(..)) => Ok(self),
-            (Nesting::After, Token::Open(place)) => Err(FormFault::NotOneForm(place)),
-            (_, Token::Close(place)) => Err(FormFault::NotOneForm(place)),
+            (Nesting::After, Token::Open(place)) | (_, Token::Close(place)) => {
+                Err(FormFault::NotOneForm(place))
+            }
             (_, Token::Name(word) | Token::Number(word, _)) => {
                 Err(FormFault::NotOneForm(word.place))
             }
@@ -53,6 +48,7 @@ pub(crate) fn nest(text: &[u8]) -> Result<(), FormFault>
 {
     let mut scanner = Scanner::new(text);
     let mut nesting = Nesting::Before;
+    // `token` and no `for`: a `for` over the scanner gives its faults too, which were told before
     while let Some(token) = scanner.token() {
         nesting = nesting.past(token)?;
     }

@@ -1,6 +1,6 @@
 // The shapes of expressions, in one table.
 ghost use Rattle.std.specs.Prelude.{◌≡◌};
-ghost use Rattle.reader.specs.Shapes.{shape, takes, takes_lead};
+ghost use Rattle.reader.specs.Shapes.{counts, shape, takes, takes_lead};
 
 use crate::keyword::Keyword;
 
@@ -37,20 +37,18 @@ pub enum Leading {
 pub fn shape_of(head: Option<Keyword>) -> Option<Shape>
     ensures { result ≡ shape head }
 {
+    // pairs, and one early return: a `Some` of a whole shape in each row would hide the table
     let (lead, operands) = match head {
         Some(Keyword::If) => (Lead::Expression, Operands::Exactly(3)),
         Some(Keyword::While) => (Lead::Expression, Operands::Exactly(2)),
         Some(Keyword::Do) => (Lead::Expression, Operands::AnyNumber),
-        Some(Keyword::Set) => (Lead::Variable, Operands::Exactly(2)),
-        Some(Keyword::Vec) => (Lead::Variable, Operands::Exactly(2)),
+        Some(Keyword::Set | Keyword::Vec) => (Lead::Variable, Operands::Exactly(2)),
         Some(Keyword::Setv) => (Lead::Variable, Operands::Exactly(3)),
         Some(Keyword::New) => (Lead::Expression, Operands::Exactly(1)),
         Some(Keyword::Sys) => (Lead::SystemCall, Operands::Exactly(2)),
-        Some(Keyword::Add) => (Lead::Expression, Operands::Exactly(2)),
-        Some(Keyword::Sub) => (Lead::Expression, Operands::Exactly(2)),
-        Some(Keyword::Eq) => (Lead::Expression, Operands::Exactly(2)),
-        Some(Keyword::Lt) => (Lead::Expression, Operands::Exactly(2)),
-        Some(Keyword::Gt) => (Lead::Expression, Operands::Exactly(2)),
+        Some(Keyword::Add | Keyword::Sub | Keyword::Eq | Keyword::Lt | Keyword::Gt) => {
+            (Lead::Expression, Operands::Exactly(2))
+        }
         Some(Keyword::Def | Keyword::Let | Keyword::Enum) => return None,
         None => (Lead::Expression, Operands::AnyNumber),
     };
@@ -61,11 +59,21 @@ impl Lead {
     fn takes(self, leading: Leading) -> bool
         ensures { result ≡ takes_lead self leading }
     {
-        match (self, leading) {
-            (Lead::Expression, _) => true,
-            (Lead::Variable, Leading::Name) => true,
-            (Lead::SystemCall, Leading::Number(n)) => 1 <= n && n <= 3,
-            _ => false,
+        match self {
+            Lead::Expression => true,
+            Lead::Variable => matches!(leading, Leading::Name),
+            Lead::SystemCall => matches!(leading, Leading::Number(1..=3)),
+        }
+    }
+}
+
+impl Operands {
+    fn takes(self, count: usize) -> bool
+        ensures { result ≡ counts self count }
+    {
+        match self {
+            Operands::Exactly(n) => count == n,
+            Operands::AnyNumber => true,
         }
     }
 }
@@ -75,9 +83,6 @@ impl Shape {
     pub fn takes(self, leading: Leading, count: usize) -> bool
         ensures { result ≡ takes self leading count }
     {
-        match self.operands {
-            Operands::Exactly(n) => count == n && self.lead.takes(leading),
-            Operands::AnyNumber => self.lead.takes(leading),
-        }
+        self.operands.takes(count) && self.lead.takes(leading)
     }
 }

@@ -1,3 +1,2 @@
-mod Runs
 mod Below
-mod Firsts
+pub mod Standings

@@ -1,2 +1,3 @@
 pub mod Lines
 pub mod Cuts
+pub mod Texts

@@ -1,5 +1,5 @@
 // The line and column of a place.
-ghost use Rattle.std.specs.Prelude.{◌≡◌, ◌+◌, ◌-◌, ◌≤◌, min, length};
+ghost use Rattle.std.specs.Prelude.{◌≡◌, ◌≤◌, length};
 ghost use Rattle.source.specs.Lines.{behind_feed, feeds, line_part, location};
 
 const LINE_FEED: u8 = b'\n';
@@ -17,13 +17,7 @@ fn count_feeds(bytes: &[u8]) -> usize
     ensures answer { result ≡ feeds bytes.now }
     ensures few { result ≤ length bytes.now }
 {
-    let mut count = 0;
-    for b in bytes {
-        if *b == LINE_FEED {
-            count += 1;
-        }
-    }
-    count
+    bytes.iter().filter(|b| **b == LINE_FEED).count()
 }
 
 // How far the line goes on from the front.
@@ -31,24 +25,15 @@ fn line_ahead(bytes: &[u8]) -> usize
     ensures answer { result ≡ length (line_part bytes.now) }
     ensures few { result ≤ length bytes.now }
 {
-    for (i, b) in bytes.iter().enumerate() {
-        if *b == LINE_FEED {
-            return i;
-        }
-    }
-    bytes.len()
+    bytes.iter().take_while(|b| **b != LINE_FEED).count()
 }
 
 // How many bytes stand behind the last line feed.
 fn bytes_behind(bytes: &[u8]) -> usize
-    ensures answer { result ≡ behind_feed 0 bytes.now }
+    ensures answer { result ≡ behind_feed bytes.now }
     ensures few { result ≤ length bytes.now }
 {
-    let mut count = 0;
-    for b in bytes {
-        count = if *b == LINE_FEED { 0 } else { count + 1 };
-    }
-    count
+    bytes.iter().rev().take_while(|b| **b != LINE_FEED).count()
 }
 
 // A place behind the text counts as its end.

@@ -2,13 +2,15 @@ use Rattle.std.proofs.Common.{◌≡◌, ◌+◌, ◌≤◌, false, length}
 use Rattle.scanner.specs.Scans.{ahead}
 use Rattle.source.specs.Cuts.{cut}
 use Rattle.source.proofs.Below.{Below}
+use Rattle.source.proofs.Standings.{deep, stray, Opened}
 use Rattle.source.proofs.texts.first_end.Given as goal
 
 abbrev pub invariant-loop-token : goal.invariant-loop-token
 invariant-loop-token l =
-    (l.open + length (ahead l.scanner) ≤ length l.text)
+    (deep l.standing + length (ahead l.scanner) ≤ length l.text)
+    × Opened l.standing
     × Below (length l.text) (ahead l.scanner)
-    × (cut l.open l.stray (length l.text) (ahead l.scanner) ≡ cut 0 false (length l.text) (ahead l.initial.scanner))
+    × (cut (deep l.standing) (stray l.standing) (length l.text) (ahead l.scanner) ≡ cut 0 false (length l.text) (ahead l.initial.scanner))
 
 abbrev pub decreases-loop-token : goal.decreases-loop-token
 decreases-loop-token l = length (ahead l.scanner)
