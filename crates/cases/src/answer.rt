@@ -2,11 +2,9 @@
 use crate::case::Case;
 use crate::error::CaseError;
 use crate::host::host_case;
-use crate::line::Line;
 use crate::memory::memory_case;
 use crate::read::read_case;
 use crate::record::record_case;
-use crate::request::Request;
 use crate::rule::{load_case, store_case};
 use crate::word::word_case;
 use std::alloc::{AllocError, Global};
@@ -31,13 +29,7 @@ fn perform(case: &mut Case<'_>) -> Result<(), CaseError> {
 
 // The line of answer.
 pub(crate) fn answer(heap: Global, asked: &str) -> Result<String, AllocError> {
-    let mut case = Case {
-        heap,
-        request: Request {
-            words: asked.split(' '),
-        },
-        line: Line::new(heap),
-    };
+    let mut case = Case::new(heap, asked);
     match perform(&mut case) {
         Ok(()) => Ok(case.line.text),
         Err(CaseError::Unreadable) => format!(in heap; "? {asked}"),

@@ -11,7 +11,17 @@ pub(crate) struct Case<'a> {
     pub(crate) line: Line,
 }
 
-impl Case<'_> {
+impl<'a> Case<'a> {
+    pub(crate) fn new(heap: Global, asked: &'a str) -> Case<'a> {
+        Case {
+            heap,
+            request: Request {
+                words: asked.split(' '),
+            },
+            line: Line::new(heap),
+        }
+    }
+
     // Two hexadecimal digits a byte, `-` for none.
     pub(crate) fn read_bytes(&mut self) -> Result<Vec<u8>, CaseError> {
         match self.request.word()? {

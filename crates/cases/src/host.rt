@@ -8,6 +8,7 @@ use runtime::host::PushHost;
 use runtime::system::write_number;
 
 fn perform<H: PushHost>(host: &mut H, case: &mut Case<'_>) -> Result<(), CaseError> {
+    // no `for`: an action takes the words behind its first from the same iterator
     while let Some(action) = case.request.words.next() {
         match action {
             "b" => case.line.done(host.put(case.request.parse()?).is_ok())?,

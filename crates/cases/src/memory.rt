@@ -9,6 +9,7 @@ use runtime::memory::Memory;
 fn perform<M: Memory>(memory: &mut M, case: &mut Case<'_>) -> Result<(), CaseError> {
     case.line.word("cells")?;
     case.line.word(memory.len())?;
+    // no `for`: an action takes the words behind its first from the same iterator
     while let Some(action) = case.request.words.next() {
         match action {
             "r" => case.line.found(memory.read(case.request.parse()?))?,
