@@ -1,6 +1,7 @@
 // Which call a line asks for.
+use crate::case::Case;
+use crate::error::CaseError;
 use crate::host::host_case;
-use crate::line::Line;
 use crate::memory::memory_case;
 use crate::read::read_case;
 use crate::record::record_case;
@@ -8,29 +9,30 @@ use crate::rule::{load_case, store_case};
 use crate::word::word_case;
 use std::alloc::{AllocError, Global};
 
-// Writes the answer to `line`; false where the words cannot be read.
-fn case(heap: Global, words: &[&str], line: &mut Line) -> Result<bool, AllocError> {
-    let [call, rest @ ..] = words else {
-        return Ok(false);
-    };
-    match *call {
-        "read" => read_case(heap, rest, line),
-        "record" => record_case(heap, rest, line),
-        "load" => load_case(heap, rest, line),
-        "store" => store_case(heap, rest, line),
-        "word" => Ok(word_case(rest, line)),
-        "memory" => memory_case(heap, rest, line),
-        "host" => host_case(heap, rest, line),
-        _ => Ok(false),
+// No word may be left behind the call's own. The match is the table of the calls: one of functions would say no more.
+fn perform(case: &mut Case<'_>) -> Result<(), CaseError> {
+    match case.request.word()? {
+        "read" => read_case(case),
+        "record" => record_case(case),
+        "load" => load_case(case),
+        "store" => store_case(case),
+        "word" => word_case(case),
+        "memory" => memory_case(case),
+        "host" => host_case(case),
+        _ => Err(CaseError::Unreadable),
+    }?;
+    match case.request.words.next() {
+        Some(_) => Err(CaseError::Unreadable),
+        None => Ok(()),
     }
 }
 
 // The line of answer.
 pub(crate) fn answer(heap: Global, asked: &str) -> Result<String, AllocError> {
-    let words: Vec<&str> = asked.split(' ').collect(heap)?;
-    let mut line = Line::new(heap);
-    if case(heap, &words, &mut line)? {
-        return line.finish();
+    let mut case = Case::new(heap, asked);
+    match perform(&mut case) {
+        Ok(()) => Ok(case.line.text),
+        Err(CaseError::Unreadable) => format!(in heap; "? {asked}"),
+        Err(CaseError::OutOfMemory) => Err(AllocError),
     }
-    format!(in heap; "? {asked}")
 }

@@ -1,145 +1,65 @@
 // `host live CAPACITY HEX ACTION..` and `host rehearsal CAPACITY FACT.. : ACTION..`: a host's answers, and its report.
-use crate::line::Line;
-use crate::number::{hex_bytes, room, signed, size};
+use crate::case::Case;
+use crate::error::CaseError;
+use crate::number::Room;
 use live_host::live::LiveHost;
 use rehearsal_host::rehearsal::RehearsalHost;
-use runtime::host::{Facts, PushHost};
+use runtime::host::PushHost;
 use runtime::system::write_number;
-use std::alloc::{AllocError, Global};
 
-#[derive(Clone, Copy)]
-enum Action {
-    Byte(u8),
-    Number(i32),
-    Fact(usize),
-    Space,
-    Count,
-}
-
-// What the words of an action said so far.
-#[derive(Clone, Copy)]
-enum Said {
-    Nothing,
-    Byte,
-    Number,
-    Fact,
-}
-
-// One word more: what is said now, and the action if it is complete.
-fn heard(said: Said, word: &str) -> Option<(Said, Option<Action>)> {
-    let action = match said {
-        Said::Byte => Action::Byte(word.parse::<u8>().ok()?),
-        Said::Number => Action::Number(signed(word)?),
-        Said::Fact => Action::Fact(size(word)?),
-        Said::Nothing => match word {
-            "b" => return Some((Said::Byte, None)),
-            "n" => return Some((Said::Number, None)),
-            "f" => return Some((Said::Fact, None)),
-            "s" => Action::Space,
-            "c" => Action::Count,
-            _ => return None,
-        },
-    };
-    Some((Said::Nothing, Some(action)))
-}
-
-fn tell_done(done: bool, line: &mut Line) {
-    line.word(if done { "ok" } else { "no" });
-}
-
-fn perform<H: PushHost>(host: &mut H, action: Action, line: &mut Line) {
-    match action {
-        Action::Byte(b) => tell_done(host.put(b).is_ok(), line),
-        Action::Number(n) => tell_done(write_number(host, n).is_ok(), line),
-        Action::Fact(k) => match host.fact(k) {
-            Some(fact) => line.number(fact),
-            None => line.word("none"),
-        },
-        Action::Space => line.size(host.space()),
-        Action::Count => line.size(host.count()),
-    }
-}
-
-// False where the words say no actions.
-fn performed<H: PushHost>(host: &mut H, words: &[&str], line: &mut Line) -> bool {
-    let mut said = Said::Nothing;
-    for word in words {
-        let Some((now, action)) = heard(said, word) else {
-            return false;
-        };
-        said = now;
-        if let Some(action) = action {
-            perform(host, action, line);
+fn perform<H: PushHost>(host: &mut H, case: &mut Case<'_>) -> Result<(), CaseError> {
+    // no `for`: an action takes the words behind its first from the same iterator
+    while let Some(action) = case.request.words.next() {
+        match action {
+            "b" => case.line.done(host.put(case.request.parse()?).is_ok())?,
+            "n" => case
+                .line
+                .done(write_number(host, case.request.parse()?).is_ok())?,
+            "f" => case.line.found(host.fact(case.request.parse()?))?,
+            "s" => case.line.word(host.space())?,
+            "c" => case.line.word(host.count())?,
+            _ => return Err(CaseError::Unreadable),
         }
     }
-    matches!(said, Said::Nothing)
+    Ok(())
 }
 
-fn live_case(
-    heap: Global,
-    capacity: usize,
-    words: &[&str],
-    line: &mut Line,
-) -> Result<bool, AllocError> {
-    let [text, actions @ ..] = words else {
-        return Ok(false);
-    };
-    let Some(record) = hex_bytes(heap, text)? else {
-        return Ok(false);
-    };
-    let mut buffer = vec![in heap; 0u8; capacity]?;
+fn live_case(capacity: usize, case: &mut Case<'_>) -> Result<(), CaseError> {
+    let record = case.read_bytes()?;
+    let mut buffer = vec![in case.heap; 0u8; capacity]?;
     let mut host = LiveHost::new(&record, &mut buffer, 0);
-    let readable = performed(&mut host, actions, line);
+    perform(&mut host, case)?;
     let length = host.report_len();
-    line.bytes(&buffer, length);
-    Ok(readable)
+    buffer.truncate(length);
+    Ok(case.tell_bytes(&buffer)?)
 }
 
-// The facts before the colon, `-` for none, and the actions behind it.
-fn facts_of<'a, 'b>(
-    heap: Global,
-    words: &'a [&'b str],
-) -> Result<Option<(Vec<i32>, &'a [&'b str])>, AllocError> {
-    let mut facts = Vec::new(heap);
-    for (i, word) in words.iter().enumerate() {
-        match *word {
-            ":" => return Ok(Some((facts, &words[i + 1..]))),
+// The facts before the colon, `-` for none.
+fn facts_of(case: &mut Case<'_>) -> Result<Vec<i32>, CaseError> {
+    let mut facts = Vec::new(case.heap);
+    for word in case.request.words.by_ref() {
+        match word {
+            ":" => return Ok(facts),
             "-" => {}
-            number => match signed(number) {
-                Some(fact) => facts.push(fact)?,
-                None => return Ok(None),
-            },
+            number => facts.push(number.parse()?)?,
         }
     }
-    Ok(None)
+    Err(CaseError::Unreadable)
 }
 
-fn rehearsal_case(
-    heap: Global,
-    capacity: usize,
-    words: &[&str],
-    line: &mut Line,
-) -> Result<bool, AllocError> {
-    let Some((facts, actions)) = facts_of(heap, words)? else {
-        return Ok(false);
-    };
+fn rehearsal_case(capacity: usize, case: &mut Case<'_>) -> Result<(), CaseError> {
+    let facts = facts_of(case)?;
     let mut host = RehearsalHost::new(&facts, capacity);
-    let readable = performed(&mut host, actions, line);
-    let report = host.report();
-    line.bytes(report, report.len());
-    Ok(readable)
+    perform(&mut host, case)?;
+    Ok(case.tell_bytes(host.report())?)
 }
 
-pub(crate) fn host_case(heap: Global, words: &[&str], line: &mut Line) -> Result<bool, AllocError> {
-    let [kind, capacity, rest @ ..] = words else {
-        return Ok(false);
-    };
-    let Some(capacity) = room(capacity) else {
-        return Ok(false);
-    };
-    match *kind {
-        "live" => live_case(heap, capacity, rest, line),
-        "rehearsal" => rehearsal_case(heap, capacity, rest, line),
-        _ => Ok(false),
+pub(crate) fn host_case(case: &mut Case<'_>) -> Result<(), CaseError> {
+    let kind = case.request.word()?;
+    let Room(capacity) = case.request.parse()?;
+    match kind {
+        "live" => live_case(capacity, case),
+        "rehearsal" => rehearsal_case(capacity, case),
+        _ => Err(CaseError::Unreadable),
     }
 }

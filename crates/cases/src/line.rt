@@ -1,87 +1,61 @@
 // An answer, word by word.
-use std::alloc::{AllocError, Global};
-use std::fmt::Write;
+ghost use Rattle.std.specs.Iterator.{IsFinite};
 
-// A line of answer with blanks between its words. Where memory runs out it is lost, and only its end says so.
+use std::alloc::{AllocError, Global};
+use std::fmt::{Display, Write};
+
+// A line of answer with blanks between its words.
 #[derive(Drop)]
 pub(crate) struct Line {
-    text: String,
-    lost: bool,
+    pub(crate) text: String,
 }
 
 impl Line {
     pub(crate) fn new(heap: Global) -> Line {
         Line {
             text: String::new(heap),
-            lost: false,
         }
     }
 
-    fn add(&mut self, text: &str) {
-        if self.text.push_str(text).is_err() {
-            self.lost = true;
-        }
-    }
-
-    // A blank between two words.
-    fn part(&mut self) {
+    pub(crate) fn word(&mut self, word: impl Display + Drop) -> Result<(), AllocError> {
         if !self.text.is_empty() {
-            self.add(" ");
+            self.text.push(' ')?;
+        }
+        write!(self.text, "{word}")
+    }
+
+    pub(crate) fn done(&mut self, done: bool) -> Result<(), AllocError> {
+        self.word(if done { "ok" } else { "no" })
+    }
+
+    // A match: two closures could not both write to the line.
+    pub(crate) fn found(&mut self, number: Option<i32>) -> Result<(), AllocError> {
+        match number {
+            Some(number) => self.word(number),
+            None => self.word("none"),
         }
     }
 
-    pub(crate) fn word(&mut self, text: &str) {
-        self.part();
-        self.add(text);
-    }
-
-    pub(crate) fn number(&mut self, n: i32) {
-        self.part();
-        if write!(self.text, "{n}").is_err() {
-            self.lost = true;
+    // A word for each item, `-` for none.
+    pub(crate) fn list<I: Iterator + Drop>(&mut self, items: I) -> Result<(), AllocError>
+    where
+        I::Item: Display + Drop,
+        requires can { I.can_next items }
+        requires ends { IsFinite (I.remaining items) }
+    {
+        let mut items = items.peekable();
+        if items.peek().is_none() {
+            return self.word("-");
         }
-    }
-
-    pub(crate) fn size(&mut self, n: usize) {
-        self.part();
-        if write!(self.text, "{n}").is_err() {
-            self.lost = true;
+        for item in items {
+            self.word(item)?;
         }
-    }
-
-    // In eight hexadecimal digits.
-    pub(crate) fn hex_word(&mut self, word: u32) {
-        self.part();
-        if write!(self.text, "{word:08x}").is_err() {
-            self.lost = true;
-        }
-    }
-
-    // The first `length` bytes in hexadecimal, `-` for none.
-    pub(crate) fn bytes(&mut self, bytes: &[u8], length: usize) {
-        self.part();
-        if length == 0 {
-            self.add("-");
-        }
-        for b in bytes.iter().take(length) {
-            if write!(self.text, "{b:02x}").is_err() {
-                self.lost = true;
-            }
-        }
+        Ok(())
     }
 
     // `refused N`, the number that a call gave.
-    pub(crate) fn refused(&mut self, number: u8) {
-        self.word("refused");
-        self.size(number as usize);
-    }
-
-    // The text, whole.
-    pub(crate) fn finish(self) -> Result<String, AllocError> {
-        let Line { text, lost } = self;
-        if lost {
-            return Err(AllocError);
-        }
-        Ok(text)
+    pub(crate) fn refused(&mut self, number: u8) -> Result<(), AllocError> {
+        self.word("refused")?;
+        self.word(number)
     }
 }

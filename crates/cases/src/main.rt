@@ -2,12 +2,15 @@
 #![tactic(auto)]
 
 mod answer;
+mod case;
+mod error;
 mod host;
 mod line;
 mod memory;
 mod number;
 mod read;
 mod record;
+mod request;
 mod rule;
 mod word;
 

@@ -1,67 +1,42 @@
-// Numbers and bytes as a line writes them.
-use std::alloc::{AllocError, Global};
+// Numbers with a rule of their own.
+use crate::error::CaseError;
+use hex::FromHex;
+use std::fmt;
+use std::str::FromStr;
 
 // The most cells, words or bytes that a line may ask for.
 const MOST_ROOM: usize = 1_000_000;
 
 // A length that the bench is ready to set up.
-pub(crate) fn room(text: &str) -> Option<usize> {
-    match text.parse::<usize>() {
-        Ok(n) if n <= MOST_ROOM => Some(n),
-        _ => None,
+#[derive(Clone, Copy)]
+pub(crate) struct Room(pub(crate) usize);
+
+impl FromStr for Room {
+    type Err = CaseError;
+
+    fn from_str(text: &str) -> Result<Room, CaseError> {
+        match text.parse::<usize>()? {
+            length @ 0..=MOST_ROOM => Ok(Room(length)),
+            _ => Err(CaseError::Unreadable),
+        }
     }
 }
 
-pub(crate) fn size(text: &str) -> Option<usize> {
-    text.parse::<usize>().ok()
-}
+// A word of S-code, in exactly eight hexadecimal digits.
+#[derive(Clone, Copy)]
+pub(crate) struct HexWord(pub(crate) u32);
 
-pub(crate) fn signed(text: &str) -> Option<i32> {
-    text.parse::<i32>().ok()
-}
+impl FromStr for HexWord {
+    type Err = CaseError;
 
-fn hex_digit(b: u8) -> Option<u32> {
-    match b {
-        b'0'..=b'9' => Some(u32::from(b - b'0')),
-        b'a'..=b'f' => Some(u32::from(b - b'a') + 10),
-        b'A'..=b'F' => Some(u32::from(b - b'A') + 10),
-        _ => None,
+    fn from_str(digits: &str) -> Result<HexWord, CaseError> {
+        let bytes = <[u8; 4] as FromHex>::from_hex(digits)?;
+        Ok(HexWord(u32::from_be_bytes(bytes)))
     }
 }
 
-// Exactly eight hexadecimal digits.
-pub(crate) fn hex_word(text: &str) -> Option<u32> {
-    if text.len() != 8 {
-        return None;
+impl fmt::Display for HexWord {
+    fn fmt<W: fmt::Write>(&self, f: &mut fmt::Formatter<W>) -> fmt::Result {
+        write!(f, "{:08x}", self.0)
     }
-    let mut word = 0u32;
-    for b in text.bytes() {
-        word = word << 4 | hex_digit(b)?;
-    }
-    Some(word)
-}
-
-// Exactly two.
-fn hex_byte(pair: &[u8]) -> Option<u8> {
-    let [high, low] = pair else {
-        return None;
-    };
-    Some(((hex_digit(*high)? << 4 | hex_digit(*low)?) & 0xff) as u8)
-}
-
-// Two hexadecimal digits a byte, `-` for none.
-pub(crate) fn hex_bytes(heap: Global, text: &str) -> Result<Option<Vec<u8>>, AllocError> {
-    let mut bytes = Vec::new(heap);
-    match text {
-        "" => return Ok(None),
-        "-" => return Ok(Some(bytes)),
-        _ => {}
-    }
-    for pair in text.as_bytes().chunks(2) {
-        let Some(byte) = hex_byte(pair) else {
-            return Ok(None);
-        };
-        bytes.push(byte)?;
-    }
-    Ok(Some(bytes))
 }

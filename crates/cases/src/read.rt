@@ -1,10 +1,11 @@
 // `read HEX`: what the reader makes of a definition's text.
+use crate::case::Case;
+use crate::error::CaseError;
 use crate::line::Line;
-use crate::number::hex_bytes;
 use reader::definition::Definition;
 use reader::read::read;
 use scanner::fault::Refusal;
-use std::alloc::{AllocError, Global};
+use std::alloc::AllocError;
 
 fn kind(definition: Definition<'_>) -> &'static str {
     match definition {
@@ -14,25 +15,20 @@ fn kind(definition: Definition<'_>) -> &'static str {
     }
 }
 
-fn tell_refusal(refusal: Refusal, line: &mut Line) {
-    line.refused(refusal.number);
-    line.size(refusal.place);
-    line.size(refusal.pass as usize);
+fn tell_refusal(refusal: Refusal, line: &mut Line) -> Result<(), AllocError> {
+    line.refused(refusal.number)?;
+    line.word(refusal.place)?;
+    line.word(refusal.pass)
 }
 
-pub(crate) fn read_case(heap: Global, words: &[&str], line: &mut Line) -> Result<bool, AllocError> {
-    let [text] = words else {
-        return Ok(false);
-    };
-    let Some(bytes) = hex_bytes(heap, text)? else {
-        return Ok(false);
-    };
+pub(crate) fn read_case(case: &mut Case<'_>) -> Result<(), CaseError> {
+    let bytes = case.read_bytes()?;
     match read(&bytes) {
         Ok(definition) => {
-            line.word("ok");
-            line.word(kind(definition));
+            case.line.word("ok")?;
+            case.line.word(kind(definition))?;
         }
-        Err(fault) => tell_refusal(fault.refusal(), line),
+        Err(fault) => tell_refusal(fault.refusal(), &mut case.line)?,
     }
-    Ok(true)
+    Ok(())
 }

@@ -1,36 +1,18 @@
 // `record HEX`: the facts of a push record.
-use crate::line::Line;
-use crate::number::hex_bytes;
+use crate::case::Case;
+use crate::error::CaseError;
 use live_host::record::PushRecord;
 use runtime::host::Facts;
-use std::alloc::{AllocError, Global};
 
-fn tell_facts(record: PushRecord<'_>, line: &mut Line) {
-    line.word("facts");
-    if record.count() == 0 {
-        line.word("-");
-    }
-    for k in 0..record.count() {
-        if let Some(fact) = record.fact(k) {
-            line.number(fact);
-        }
-    }
-}
-
-pub(crate) fn record_case(
-    heap: Global,
-    words: &[&str],
-    line: &mut Line,
-) -> Result<bool, AllocError> {
-    let [text] = words else {
-        return Ok(false);
-    };
-    let Some(bytes) = hex_bytes(heap, text)? else {
-        return Ok(false);
-    };
+pub(crate) fn record_case(case: &mut Case<'_>) -> Result<(), CaseError> {
+    let bytes = case.read_bytes()?;
     match PushRecord::read(&bytes) {
-        Ok(record) => tell_facts(record, line),
-        Err(fault) => line.refused(fault.number()),
+        Ok(record) => {
+            case.line.word("facts")?;
+            let facts = (0..record.count()).filter_map(|k| record.fact(k));
+            case.line.list(facts)?;
+        }
+        Err(fault) => case.line.refused(fault.number())?,
     }
-    Ok(true)
+    Ok(())
 }

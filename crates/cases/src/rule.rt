@@ -1,87 +1,58 @@
 // `load ROOM HEX` and `store ROOM GLOBALS ENTRY WORD..`: the stored rule.
-use crate::line::Line;
-use crate::number::{hex_bytes, hex_word, room, size};
-use std::alloc::{AllocError, Global};
+use crate::case::Case;
+use crate::error::CaseError;
+use crate::number::{HexWord, Room};
 use stored::load::load;
-use stored::rule::{BorrowedRule, RuleHeader};
+use stored::rule::BorrowedRule;
 use stored::store::store;
 
-fn tell_rule(header: RuleHeader, words: &[u32], line: &mut Line) {
-    line.word("rule");
-    line.size(header.globals);
-    line.size(header.entry);
-    if header.words == 0 {
-        line.word("-");
-    }
-    for word in words.iter().take(header.words) {
-        line.hex_word(*word);
-    }
-}
-
-pub(crate) fn load_case(heap: Global, texts: &[&str], line: &mut Line) -> Result<bool, AllocError> {
-    let [space, text] = texts else {
-        return Ok(false);
-    };
-    let Some(space) = room(space) else {
-        return Ok(false);
-    };
-    let Some(bytes) = hex_bytes(heap, text)? else {
-        return Ok(false);
-    };
-    let mut words = vec![in heap; 0u32; space]?;
+pub(crate) fn load_case(case: &mut Case<'_>) -> Result<(), CaseError> {
+    let Room(room) = case.request.parse()?;
+    let bytes = case.read_bytes()?;
+    let mut words = vec![in case.heap; 0u32; room]?;
     match load(&bytes, &mut words) {
-        Ok(header) => tell_rule(header, &words, line),
-        Err(fault) => line.refused(fault.number()),
+        Ok(header) => {
+            case.line.word("rule")?;
+            case.line.word(header.globals)?;
+            case.line.word(header.entry)?;
+            let stored = words.iter().take(header.words).map(|word| HexWord(*word));
+            case.line.list(stored)?;
+        }
+        Err(fault) => case.line.refused(fault.number())?,
     }
-    Ok(true)
+    Ok(())
 }
 
-// The words of a line, `-` for none.
-fn words_of(heap: Global, texts: &[&str]) -> Result<Option<Vec<u32>>, AllocError> {
-    let mut words = Vec::new(heap);
-    if let ["-"] = texts {
-        return Ok(Some(words));
+// The words that are left, `-` for none.
+fn words_of(case: &mut Case<'_>) -> Result<Vec<u32>, CaseError> {
+    let texts: Vec<&str> = case.request.words.by_ref().collect(case.heap)?;
+    match texts.as_slice() {
+        ["-"] => Ok(Vec::new(case.heap)),
+        texts => texts
+            .iter()
+            .map(|text| -> Result<u32, CaseError> { Ok(text.parse::<HexWord>()?.0) })
+            .try_collect(case.heap),
     }
-    for text in texts {
-        let Some(word) = hex_word(text) else {
-            return Ok(None);
-        };
-        words.push(word)?;
-    }
-    Ok(Some(words))
 }
 
-// The output's room, the globals and the entry address.
-fn sizes_of(space: &str, globals: &str, entry: &str) -> Option<(usize, usize, usize)> {
-    Some((room(space)?, size(globals)?, size(entry)?))
-}
-
-pub(crate) fn store_case(
-    heap: Global,
-    texts: &[&str],
-    line: &mut Line,
-) -> Result<bool, AllocError> {
-    let [space, globals, entry, texts @ ..] = texts else {
-        return Ok(false);
-    };
-    let Some((space, globals, entry)) = sizes_of(space, globals, entry) else {
-        return Ok(false);
-    };
-    let Some(words) = words_of(heap, texts)? else {
-        return Ok(false);
-    };
-    let mut bytes = vec![in heap; 0u8; space]?;
+pub(crate) fn store_case(case: &mut Case<'_>) -> Result<(), CaseError> {
+    let Room(room) = case.request.parse()?;
+    let globals = case.request.parse()?;
+    let entry = case.request.parse()?;
+    let words = words_of(case)?;
     let rule = BorrowedRule {
         words: &words,
         globals,
         entry,
     };
+    let mut bytes = vec![in case.heap; 0u8; room]?;
     match store(&rule, &mut bytes) {
         Ok(length) => {
-            line.word("bytes");
-            line.bytes(&bytes, length);
+            bytes.truncate(length);
+            case.line.word("bytes")?;
+            case.tell_bytes(&bytes)?;
         }
-        Err(fault) => line.refused(fault.number()),
+        Err(fault) => case.line.refused(fault.number())?,
     }
-    Ok(true)
+    Ok(())
 }

@@ -1,19 +1,14 @@
 // `word HEX8`: one word of S-code.
-use crate::line::Line;
-use crate::number::hex_word;
+use crate::case::Case;
+use crate::error::CaseError;
+use crate::number::HexWord;
 use scode::code::decode;
 use scode::words::split;
 
-pub(crate) fn word_case(texts: &[&str], line: &mut Line) -> bool {
-    let [text] = texts else {
-        return false;
-    };
-    let Some(word) = hex_word(text) else {
-        return false;
-    };
+pub(crate) fn word_case(case: &mut Case<'_>) -> Result<(), CaseError> {
+    let HexWord(word) = case.request.parse()?;
     let fields = split(word);
-    line.size(fields.opcode as usize);
-    line.number(fields.argument);
-    line.word(decode(word).mnemonic());
-    true
+    case.line.word(fields.opcode)?;
+    case.line.word(fields.argument)?;
+    Ok(case.line.word(decode(word).mnemonic())?)
 }

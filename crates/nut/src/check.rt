@@ -1,40 +1,25 @@
 // `nut check FILE`: every definition of a file, and why the others are refused.
-use crate::report::{Report, Source};
-use anyhow::anyhow;
-use source::texts::text_at;
+use crate::report::Report;
+use crate::text::Texts;
+use anyhow::{anyhow, ensure};
 use std::alloc::{AllocError, Global};
 use std::fs;
 
-fn read_file(rt: &HostRuntime, path: &str) -> anyhow::Result<Vec<u8>> {
-    match fs::read(rt, path) {
-        Ok(bytes) => Ok(bytes),
-        Err(error) => Err(anyhow!(format!(in rt.alloc(); "{path}: {error}")?)),
-    }
-}
-
 // The definitions of the file in order, then their number.
-pub(crate) fn report_on<'a>(
-    heap: Global,
-    path: &'a str,
-    file: &'a [u8],
-) -> Result<Report, AllocError> {
+pub(crate) fn report_on(heap: Global, path: &str, file: &[u8]) -> Result<Report, AllocError> {
     let mut report = Report::new(heap);
-    let mut from = 0;
-    while let Some(text) = text_at(file, from) {
-        report.add(Source { path, file, from }, text)?;
-        from += text.len();
+    for text in Texts::new(path, file) {
+        report.add(text)?;
     }
     report.sum_up(path)?;
     Ok(report)
 }
 
 pub(crate) fn check(rt: &HostRuntime, path: &str) -> anyhow::Result<()> {
-    let file = read_file(rt, path)?;
+    let file = fs::read(rt, path).map_err(|error| anyhow!("{path}: {error}"))?;
     let report = report_on(rt.alloc(), path, &file)?;
     let text = report.text();
     print!(rt; "{text}")?;
-    if report.has_refused() {
-        return Err(anyhow!("some definitions are refused"));
-    }
+    ensure!(!report.has_refused(), "some definitions are refused");
     Ok(())
 }

@@ -1,64 +1,58 @@
 // `nut inspect RULE PUSH`: a stored rule and a push record, read, shown, and the rule stored again.
 use crate::listing::{print_facts, print_rule};
-use crate::refusal::{load_words, record_words, store_words};
-use anyhow::anyhow;
+use crate::refusal::Fault;
+use anyhow::{anyhow, ensure};
 use live_host::record::PushRecord;
 use runtime::host::Facts;
-use std::fs;
+use std::{fs, io};
 use stored::load::load;
 use stored::rule::{BorrowedRule, MOST_WORDS, RuleHeader};
 use stored::store::store;
 
-fn read_file(rt: &HostRuntime, what: &str, path: &str) -> anyhow::Result<Vec<u8>> {
+fn read_file(rt: &HostRuntime, what: &str, path: &str) -> io::Result<Vec<u8>> {
     print!(rt; "reading the {what} {path}: ")?;
-    match fs::read(rt, path) {
-        Ok(bytes) => {
-            let length = bytes.len();
-            println!(rt; "{length} bytes")?;
-            Ok(bytes)
-        }
-        Err(error) => {
-            println!(rt; "failed")?;
-            Err(error.into())
-        }
-    }
+    let bytes = fs::read(rt, path).try_map_err(|error| -> io::Result<io::Error> {
+        println!(rt; "failed")?;
+        Ok(error)
+    })?;
+    let length = bytes.len();
+    println!(rt; "{length} bytes")?;
+    Ok(bytes)
+}
+
+// A refusal is told with its number and why; what it means for the command is the error.
+fn accepted<T, F: Fault>(
+    rt: &HostRuntime,
+    answer: Result<T, F>,
+    meaning: &'static str,
+) -> anyhow::Result<T> {
+    answer.try_map_err(|fault| -> anyhow::Result<anyhow::Error> {
+        let number = fault.number();
+        let why = fault.why();
+        println!(rt; "refused with {number}: {why}")?;
+        Ok(anyhow!(meaning))
+    })
 }
 
 // The rule's words, its header told.
 fn load_rule(rt: &HostRuntime, bytes: &[u8], words: &mut [u32]) -> anyhow::Result<RuleHeader> {
     print!(rt; "loading the rule: ")?;
-    match load(bytes, words) {
-        Ok(header) => {
-            let count = header.words;
-            let globals = header.globals;
-            let entry = header.entry;
-            println!(rt; "words {count}, globals {globals}, entry at word {entry}")?;
-            Ok(header)
-        }
-        Err(fault) => {
-            let number = fault.number();
-            let why = load_words(fault);
-            println!(rt; "refused with {number}: {why}")?;
-            Err(anyhow!("the rule is refused"))
-        }
-    }
+    let header = accepted(rt, load(bytes, words), "the rule is refused")?;
+    let RuleHeader {
+        words: count,
+        globals,
+        entry,
+    } = header;
+    println!(rt; "words {count}, globals {globals}, entry at word {entry}")?;
+    Ok(header)
 }
 
 fn show_push(rt: &HostRuntime, bytes: &[u8]) -> anyhow::Result<()> {
     print!(rt; "reading the facts of the push: ")?;
-    match PushRecord::read(bytes) {
-        Ok(record) => {
-            let count = record.count();
-            println!(rt; "{count} facts")?;
-            print_facts(rt, record)
-        }
-        Err(fault) => {
-            let number = fault.number();
-            let why = record_words(fault);
-            println!(rt; "refused with {number}: {why}")?;
-            Err(anyhow!("the push record is refused"))
-        }
-    }
+    let record = accepted(rt, PushRecord::read(bytes), "the push record is refused")?;
+    let count = record.count();
+    println!(rt; "{count} facts")?;
+    print_facts(rt, record)
 }
 
 // Stores the rule, and compares the bytes with those that it was loaded from.
@@ -75,19 +69,13 @@ fn store_again(
         globals: header.globals,
         entry: header.entry,
     };
-    match store(&rule, &mut out) {
-        Ok(length) if out.as_slice() == bytes => {
-            println!(rt; "{length} bytes, equal to those that were read")?;
-            Ok(())
-        }
-        Ok(_) => Err(anyhow!("the stored bytes differ from those that were read")),
-        Err(fault) => {
-            let number = fault.number();
-            let why = store_words(fault);
-            println!(rt; "refused with {number}: {why}")?;
-            Err(anyhow!("the rule cannot be stored"))
-        }
-    }
+    let length = accepted(rt, store(&rule, &mut out), "the rule cannot be stored")?;
+    ensure!(
+        out.as_slice() == bytes,
+        "the stored bytes differ from those that were read"
+    );
+    println!(rt; "{length} bytes, equal to those that were read")?;
+    Ok(())
 }
 
 pub(crate) fn inspect(rt: &HostRuntime, rule: &str, push: &str) -> anyhow::Result<()> {

@@ -1,4 +1,5 @@
 // A rule word by word, and a push's facts.
+use crate::letter::letter;
 use live_host::record::PushRecord;
 use runtime::host::Facts;
 use scode::code::decode;
@@ -37,23 +38,14 @@ pub(crate) fn print_rule(rt: &HostRuntime, words: &[u32], entry: usize) -> anyho
     Ok(())
 }
 
-// The letter of a letter code.
-fn letter(fact: i32) -> Option<char> {
-    match fact {
-        32..=126 => Some((fact as u8) as char),
-        _ => None,
-    }
-}
-
 // The facts one by one, and those that are letter codes as text.
 pub(crate) fn print_facts(rt: &HostRuntime, record: PushRecord<'_>) -> anyhow::Result<()> {
     let mut text = String::new(rt.alloc());
-    for k in 0..record.count() {
-        if let Some(fact) = record.fact(k) {
-            let shown = letter(fact).unwrap_or('.');
-            println!(rt; "  fact {k:>2}  {shown}  {fact}")?;
-            text.push(shown)?;
-        }
+    let facts = (0..record.count()).filter_map(|k| record.fact(k));
+    for (k, fact) in facts.enumerate() {
+        let shown = u8::try_from(fact).ok().and_then(letter).unwrap_or('.');
+        println!(rt; "  fact {k:>2}  {shown}  {fact}")?;
+        text.push(shown)?;
     }
     println!(rt; "  as text  {text}  (a dot for what is no letter code)")?;
     Ok(())

@@ -5,11 +5,14 @@ mod check;
 mod excerpt;
 mod hint;
 mod inspect;
+mod letter;
 mod listing;
 mod refusal;
+mod refused;
 mod report;
 #[cfg(test)]
 mod tests;
+mod text;
 mod title;
 
 use crate::check::check;
@@ -35,14 +38,11 @@ docs/numbers.md explains; with a refusal the program ends with status 1.
 
 fn run(rt: &HostRuntime) -> anyhow::Result<()> {
     let words: Vec<String> = env::args(rt)?.skip(1).collect(rt.alloc())?;
+    let words: Vec<&str> = words.iter().map(|word| word.as_str()).collect(rt.alloc())?;
     match words.as_slice() {
-        [command, file] if command.as_str() == "check" => check(rt, file.as_str()),
-        [command, rule, push] if command.as_str() == "inspect" => inspect(
-            rt,
-            rule.as_str(),
-            push.as_str(),
-        ),
-        [command] if command.as_str() == "help" || command.as_str() == "--help" => {
+        ["check", file] => check(rt, file),
+        ["inspect", rule, push] => inspect(rt, rule, push),
+        ["help" | "--help"] => {
             println!(rt; "{HELP}")?;
             Ok(())
         }

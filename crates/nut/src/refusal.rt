@@ -4,7 +4,44 @@ use reader::fault::FormFault;
 use scanner::fault::ScanFault;
 use stored::rule::{LoadFault, StoreFault};
 
-pub(crate) fn load_words(fault: LoadFault) -> &'static str {
+// A fault of a stored rule or a push record, as it is told.
+pub(crate) trait Fault: Drop {
+    fn number(&self) -> u8;
+
+    fn why(&self) -> &'static str;
+}
+
+impl Fault for LoadFault {
+    fn number(&self) -> u8 {
+        LoadFault::number(*self)
+    }
+
+    fn why(&self) -> &'static str {
+        load_words(*self)
+    }
+}
+
+impl Fault for StoreFault {
+    fn number(&self) -> u8 {
+        StoreFault::number(*self)
+    }
+
+    fn why(&self) -> &'static str {
+        store_words(*self)
+    }
+}
+
+impl Fault for RecordFault {
+    fn number(&self) -> u8 {
+        RecordFault::number(*self)
+    }
+
+    fn why(&self) -> &'static str {
+        record_words(*self)
+    }
+}
+
+fn load_words(fault: LoadFault) -> &'static str {
     match fault {
         LoadFault::Short => "it is shorter than the header of 11 bytes",
         LoadFault::Mark => "it does not begin with NSC",
@@ -15,7 +52,7 @@ pub(crate) fn load_words(fault: LoadFault) -> &'static str {
     }
 }
 
-pub(crate) fn store_words(fault: StoreFault) -> &'static str {
+fn store_words(fault: StoreFault) -> &'static str {
     match fault {
         StoreFault::TooManyWords => "it has over 8,192 words",
         StoreFault::Globals => "it has over 65,535 globals",
@@ -24,7 +61,7 @@ pub(crate) fn store_words(fault: StoreFault) -> &'static str {
     }
 }
 
-pub(crate) fn record_words(fault: RecordFault) -> &'static str {
+fn record_words(fault: RecordFault) -> &'static str {
     match fault {
         RecordFault::Short => "it is shorter than the header of 6 bytes",
         RecordFault::Mark => "it does not begin with PSH",

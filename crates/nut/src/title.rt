@@ -1,35 +1,40 @@
 // The kind of a definition and what it names.
-use reader::definition::{Definition, Names};
-use std::alloc::{AllocError, Global};
+use reader::definition::Definition;
+use std::fmt;
 
-// Words are ASCII, so each byte is a letter.
-fn add_word(line: &mut String, word: &[u8]) -> Result<(), AllocError> {
-    line.push(' ')?;
-    for b in word {
-        line.push(*b as char)?;
-    }
-    Ok(())
-}
+#[derive(Clone, Copy)]
+pub(crate) struct Title<'a>(pub(crate) Definition<'a>);
 
-fn add_names(line: &mut String, names: Names<'_>) -> Result<(), AllocError> {
-    let mut names = names;
-    while let Some(name) = names.next() {
-        add_word(line, name.bytes)?;
-    }
-    Ok(())
-}
-
-pub(crate) fn title(heap: Global, definition: Definition<'_>) -> Result<String, AllocError> {
-    let kind = match definition {
+fn kind(definition: Definition<'_>) -> &'static str {
+    match definition {
         Definition::Function(_) => "def",
         Definition::Global(_) => "let",
         Definition::Enumeration(_) => "enum",
-    };
-    let mut line = String::from_str(heap, kind)?;
-    match definition {
-        Definition::Function(function) => add_word(&mut line, function.name.bytes)?,
-        Definition::Global(name) => add_word(&mut line, name.bytes)?,
-        Definition::Enumeration(enumeration) => add_names(&mut line, enumeration.names)?,
     }
-    Ok(line)
+}
+
+// Words are ASCII, so each byte is a letter.
+fn write_word<W: fmt::Write>(word: &[u8], f: &mut fmt::Formatter<W>) -> fmt::Result {
+    f.write_char(' ')?;
+    for byte in word {
+        f.write_char(char::from(*byte))?;
+    }
+    Ok(())
+}
+
+impl fmt::Display for Title<'_> {
+    fn fmt<W: fmt::Write>(&self, f: &mut fmt::Formatter<W>) -> fmt::Result {
+        f.write_str(kind(self.0))?;
+        match self.0 {
+            Definition::Function(function) => write_word(function.name.bytes, f),
+            Definition::Global(name) => write_word(name.bytes, f),
+            Definition::Enumeration(enumeration) => {
+                let mut names = enumeration.names;
+                while let Some(name) = names.next() {
+                    write_word(name.bytes, f)?;
+                }
+                Ok(())
+            }
+        }
+    }
 }

@@ -1,0 +1,64 @@
+// A text that is no definition.
+use crate::excerpt::Excerpt;
+use crate::hint::hint;
+use crate::refusal::form_words;
+use crate::text::Text;
+use reader::fault::FormFault;
+use scanner::fault::ScanFault;
+use std::fmt;
+
+#[derive(Clone, Copy)]
+pub(crate) struct Refused<'a> {
+    pub(crate) text: Text<'a>,
+    pub(crate) fault: FormFault,
+}
+
+impl Refused<'_> {
+    // A text without a token, as behind the last definition, is no definition; a byte in it that stands in no text is
+    // told all the same.
+    pub(crate) fn is_blank(self) -> bool {
+        !matches!(self.fault, FormFault::Scan(ScanFault::ForeignByte(_)))
+            && self.text.first_place().is_none()
+    }
+
+    // What helps to mend it, if there is something to say.
+    fn write_help<W: fmt::Write>(self, f: &mut fmt::Formatter<W>) -> fmt::Result {
+        let first = self.text.first_place().unwrap_or(0);
+        match self.fault {
+            FormFault::NotOneForm(place) if place >= self.text.bytes.len() => {
+                let line = self.text.locate(first).line;
+                write!(f, "\n    the form begins on line {line}")
+            }
+            FormFault::NoShape(place) if place < self.text.bytes.len() => {
+                let words = hint(&self.text.bytes[place..], place == first);
+                write!(f, "\n    {words}")
+            }
+            _ => Ok(()),
+        }
+    }
+}
+
+// What is wrong and where, with the line and a caret.
+impl fmt::Display for Refused<'_> {
+    fn fmt<W: fmt::Write>(&self, f: &mut fmt::Formatter<W>) -> fmt::Result {
+        let Refused { text, fault } = *self;
+        let refusal = fault.refusal();
+        let location = text.locate(refusal.place);
+        let path = text.path;
+        let line = location.line;
+        let column = location.column;
+        let number = refusal.number;
+        let pass = refusal.pass;
+        let why = form_words(fault, text.bytes);
+        let excerpt = Excerpt {
+            file: text.file,
+            location,
+            place: text.place(refusal.place),
+        };
+        write!(
+            f,
+            "{path}:{line}:{column}: refused with {number} (pass {pass}): {why}\n{excerpt}"
+        )?;
+        self.write_help(f)
+    }
+}
