@@ -30,12 +30,12 @@ pub(crate) fn memory_case(case: &mut Case<'_>) -> Result<(), CaseError> {
     match kind {
         "words" => {
             let mut cells = vec![in case.heap; 7i32; length]?;
-            perform(&mut Words { cells: &mut cells }, case)?;
+            perform(&mut Words { buffer: &mut cells }, case)?;
             case.line.list(cells.iter())?;
         }
         "packed" => {
             let mut bytes = vec![in case.heap; 7u8; length]?;
-            perform(&mut Packed { bytes: &mut bytes }, case)?;
+            perform(&mut Packed { buffer: &mut bytes }, case)?;
             case.tell_bytes(&bytes)?;
         }
         _ => return Err(CaseError::Unreadable),

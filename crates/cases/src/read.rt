@@ -2,18 +2,9 @@
 use crate::case::Case;
 use crate::error::CaseError;
 use crate::line::Line;
-use reader::definition::Definition;
 use reader::read::read;
 use scanner::fault::Refusal;
 use std::alloc::AllocError;
-
-fn kind(definition: Definition<'_>) -> &'static str {
-    match definition {
-        Definition::Function(_) => "def",
-        Definition::Global(_) => "let",
-        Definition::Enumeration(_) => "enum",
-    }
-}
 
 fn tell_refusal(refusal: Refusal, line: &mut Line) -> Result<(), AllocError> {
     line.refused(refusal.number)?;
@@ -26,7 +17,7 @@ pub(crate) fn read_case(case: &mut Case<'_>) -> Result<(), CaseError> {
     match read(&bytes) {
         Ok(definition) => {
             case.line.word("ok")?;
-            case.line.word(kind(definition))?;
+            case.line.word(definition.keyword())?;
         }
         Err(fault) => tell_refusal(fault.refusal(), &mut case.line)?,
     }

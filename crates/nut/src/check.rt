@@ -1,15 +1,21 @@
 // `nut check FILE`: every definition of a file, and why the others are refused.
 use crate::report::Report;
-use crate::text::Texts;
+use crate::text::Text;
 use anyhow::{anyhow, ensure};
+use source::texts::Texts;
 use std::alloc::{AllocError, Global};
 use std::fs;
 
 // The definitions of the file in order, then their number.
 pub(crate) fn report_on(heap: Global, path: &str, file: &[u8]) -> Result<Report, AllocError> {
     let mut report = Report::new(heap);
-    for text in Texts::new(path, file) {
-        report.add(text)?;
+    for part in Texts::of(file) {
+        report.add(Text {
+            path,
+            file,
+            from: part.place,
+            bytes: part.bytes,
+        })?;
     }
     report.sum_up(path)?;
     Ok(report)

@@ -28,8 +28,7 @@ fn accepted<T, F: Fault>(
 ) -> anyhow::Result<T> {
     answer.try_map_err(|fault| -> anyhow::Result<anyhow::Error> {
         let number = fault.number();
-        let why = fault.why();
-        println!(rt; "refused with {number}: {why}")?;
+        println!(rt; "refused with {number}: {fault}")?;
         Ok(anyhow!(meaning))
     })
 }

@@ -1,7 +1,6 @@
 // A rule word by word, and a push's facts.
 use crate::letter::letter;
 use live_host::record::PushRecord;
-use runtime::host::Facts;
 use scode::code::decode;
 use scode::instruction::Instruction;
 use scode::words::split;
@@ -41,8 +40,7 @@ pub(crate) fn print_rule(rt: &HostRuntime, words: &[u32], entry: usize) -> anyho
 // The facts one by one, and those that are letter codes as text.
 pub(crate) fn print_facts(rt: &HostRuntime, record: PushRecord<'_>) -> anyhow::Result<()> {
     let mut text = String::new(rt.alloc());
-    let facts = (0..record.count()).filter_map(|k| record.fact(k));
-    for (k, fact) in facts.enumerate() {
+    for (k, fact) in record.facts().enumerate() {
         let shown = u8::try_from(fact).ok().and_then(letter).unwrap_or('.');
         println!(rt; "  fact {k:>2}  {shown}  {fact}")?;
         text.push(shown)?;

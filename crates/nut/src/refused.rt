@@ -1,7 +1,6 @@
 // A text that is no definition.
 use crate::excerpt::Excerpt;
 use crate::hint::hint;
-use crate::refusal::form_words;
 use crate::text::Text;
 use reader::fault::FormFault;
 use scanner::fault::ScanFault;
@@ -19,6 +18,16 @@ impl Refused<'_> {
     pub(crate) fn is_blank(self) -> bool {
         !matches!(self.fault, FormFault::Scan(ScanFault::ForeignByte(_)))
             && self.text.first_place().is_none()
+    }
+
+    // Why; only whoever has the text sees that it ends before its form is closed.
+    fn write_why<W: fmt::Write>(self, f: &mut fmt::Formatter<W>) -> fmt::Result {
+        match self.fault {
+            FormFault::NotOneForm(place) if place == self.text.bytes.len() => {
+                f.write_str("the text ends here, before its form is closed")
+            }
+            fault => write!(f, "{fault}"),
+        }
     }
 
     // What helps to mend it, if there is something to say.
@@ -49,16 +58,14 @@ impl fmt::Display for Refused<'_> {
         let column = location.column;
         let number = refusal.number;
         let pass = refusal.pass;
-        let why = form_words(fault, text.bytes);
         let excerpt = Excerpt {
             file: text.file,
             location,
             place: text.place(refusal.place),
         };
-        write!(
-            f,
-            "{path}:{line}:{column}: refused with {number} (pass {pass}): {why}\n{excerpt}"
-        )?;
+        write!(f, "{path}:{line}:{column}: refused with {number} (pass {pass}): ")?;
+        self.write_why(f)?;
+        write!(f, "\n{excerpt}")?;
         self.write_help(f)
     }
 }

@@ -5,14 +5,6 @@ use std::fmt;
 #[derive(Clone, Copy)]
 pub(crate) struct Title<'a>(pub(crate) Definition<'a>);
 
-fn kind(definition: Definition<'_>) -> &'static str {
-    match definition {
-        Definition::Function(_) => "def",
-        Definition::Global(_) => "let",
-        Definition::Enumeration(_) => "enum",
-    }
-}
-
 // Words are ASCII, so each byte is a letter.
 fn write_word<W: fmt::Write>(word: &[u8], f: &mut fmt::Formatter<W>) -> fmt::Result {
     f.write_char(' ')?;
@@ -24,13 +16,13 @@ fn write_word<W: fmt::Write>(word: &[u8], f: &mut fmt::Formatter<W>) -> fmt::Res
 
 impl fmt::Display for Title<'_> {
     fn fmt<W: fmt::Write>(&self, f: &mut fmt::Formatter<W>) -> fmt::Result {
-        f.write_str(kind(self.0))?;
+        let keyword = self.0.keyword();
+        write!(f, "{keyword}")?;
         match self.0 {
             Definition::Function(function) => write_word(function.name.bytes, f),
             Definition::Global(name) => write_word(name.bytes, f),
             Definition::Enumeration(enumeration) => {
-                let mut names = enumeration.names;
-                while let Some(name) = names.next() {
+                for name in enumeration.names {
                     write_word(name.bytes, f)?;
                 }
                 Ok(())
