@@ -46,7 +46,7 @@ body bytes =
 abbrev pub record_bytes : List ℤ → List ℕ
 record_bytes facts = 80 ∷ 83 ∷ 72 ∷ 1 ∷ 0 ∷ length facts ∷ words_bytes (map (of_z w32) facts)
 
--- the facts of a record that was read
+-- the facts of a record that was read, at most 64 by its type
 abbrev pub facts_of : PushRecord → List ℤ
 facts_of r = cells_of r.numbers.now
 

@@ -23,6 +23,7 @@ impl RehearsalHost {
     ghost use Rattle.rehearsal_host.specs.Rehearsal.{facts_of, report_of, spare_of};
 
     // Facts past 32 and a capacity past 256 count as these; the report is empty.
+    #[tactic(auto, unfolding(runtime::specs::First::first))]
     pub fn new(facts: &[i32], capacity: usize) -> RehearsalHost
         ensures facts { facts_of result ≡ first 32 facts.now }
         ensures report { report_of result ≡ [] }
