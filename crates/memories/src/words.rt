@@ -33,8 +33,7 @@ impl Buffer for &mut [i32] {
     }
 
     fn cell(&self, i: usize) -> Option<i32> {
-        let words: &[i32] = &**self;
-        words.get(i).copied()
+        self.get(i).copied()
     }
 
     fn set_cell(&mut self, i: usize, v: i32) -> Result<(), Outside> {

@@ -1,9 +1,8 @@
 -- The numbers within a limit: how many, which, and one that is written.
-use Rattle.std.proofs.Common.{◌≡◌, ℕ, ◌<◌, ◌≤◌, min, List, length, get_or, take, set, ℤ, pos, Some, sym, ap, ◌∙◌, arith, get_or-take}
+use Rattle.std.proofs.Common.{◌≡◌, ℕ, ◌<◌, ◌≤◌, min, List, length, take, set, ℤ, sym, ap, ◌∙◌, arith}
 use Rattle.std.proofs.Math.Seq.{take-set-lt}
 use Rattle.std.specs.List.{slice_get}
 use Rattle.std.proofs.lemmas.List.{length-take, take_all, take_min}
-use Rattle.std.proofs.lemmas.Option.{slice_get-get_or}
 use Rattle.runtime.specs.First.{first}
 use Rattle.runtime.proofs.Below.{nth_take}
 
@@ -14,13 +13,6 @@ length_first n xs = length-take n xs
 pub set_first : (n : ℕ) (xs : List ℤ) (i : ℕ) (v : ℤ) → i < length (first n xs) → first n (set xs i v) ≡ set (first n xs) i v
 unfolding first
 set_first n xs i v h = take-set-lt n xs i v (omega (arith, length-take n xs))
-
-pub get_or_first : (n : ℕ) (xs : List ℤ) (i : ℕ) → i < length (first n xs) → get_or (first n xs) i (pos 0) ≡ get_or xs i (pos 0)
-unfolding first
-get_or_first n xs i h = get_or-take n xs i (pos 0) (omega (arith, length-take n xs))
-
-pub nth_first : (n : ℕ) (xs : List ℤ) (i : ℕ) (v : ℤ) → i < length (first n xs) → v ≡ get_or xs i (pos 0) → Some v ≡ slice_get (first n xs) i
-nth_first n xs i v h e = ap Some (e ∙ sym (get_or_first n xs i h)) ∙ sym (slice_get-get_or (first n xs) i (pos 0) h)
 
 -- below the limit the list is the same, also past its end
 pub nth_within : (n : ℕ) (xs : List ℤ) (i : ℕ) → i < n → slice_get xs i ≡ slice_get (first n xs) i

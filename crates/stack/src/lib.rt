@@ -6,7 +6,7 @@ ghost use Rattle.std.specs.Prelude.{◌≤◌, length};
 mod ops;
 mod tells;
 
-// The entries are the first `depth` cells, the last of them on top.
+// The entries are the first `depth` cells, the last of them on top. Cells with a depth beside them, and no Vec: stacks lie in lent memory.
 #[derive(Drop)]
 pub struct Stack<'a, T> {
     cells: &'a mut [T],
