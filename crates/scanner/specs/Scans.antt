@@ -1,9 +1,7 @@
 -- What a scanner has still to give.
-use Rattle.std.specs.Prelude.{◌≡◌, ℕ, List, [], ◌∷◌, map, drop, Some, None, Ok, Err, Option, Result}
+use Rattle.std.specs.Prelude.{◌≡◌, ℕ, Bool, true, false, List, [], ◌∷◌, map, drop, Some, None, Ok, Err, Option, Result}
 use Rattle.scanner.specs.declared.fault.ScanFault.{ScanFault}
 use Rattle.scanner.specs.declared.scanner.Scanner.{Scanner}
-use Rattle.scanner.specs.declared.scanner.State.{State}
-use Rattle.scanner.specs.declared.scanner.State.TheVariants.{Between, InComment}
 use Rattle.scanner.specs.declared.token.Token.{Token}
 use Rattle.scanner.specs.declared.token.Token.TheVariants as token
 use Rattle.scanner.specs.Pieces.{Mode, between, in_comment, pieces, pieces_of}
@@ -12,12 +10,12 @@ use Rattle.scanner.specs.Words.{Lexeme, opens, closes, name, number, Item, item}
 abbrev pub items_of : List ℕ → List Item
 items_of text = map item (pieces_of text)
 
-abbrev pub mode : State → Mode
-mode Between = between
-mode InComment = in_comment
+abbrev pub mode : Bool → Mode
+mode true = in_comment
+mode false = between
 
 abbrev pub left : Scanner → List Item
-left s = map item (pieces (mode s.state) s.at (drop s.at s.text.now))
+left s = map item (pieces (mode s.in_comment) s.at (drop s.at s.text.now))
 
 -- the tokens among what the scanner gives
 abbrev pub lexemes : List Item → List Lexeme

@@ -1,8 +1,6 @@
 // The scanner: one token after another, or what is wrong in its place.
-ghost use Rattle.std.specs.Prelude.{◌≡◌, ◌≤◌, length};
+ghost use Rattle.std.specs.Prelude.{◌≡◌};
 ghost use Rattle.std.specs.Iterator.{YieldsFirstBy, item_count};
-ghost use Rattle.std.specs.List.{prefix_len};
-ghost use Rattle.scanner.specs.Bytes.{is_letter};
 ghost use Rattle.scanner.specs.Scans.{ahead, items_of, left, Next, seen};
 
 use crate::class::{Class, class_of};
@@ -10,30 +8,22 @@ use crate::fault::ScanFault;
 use crate::number::token_of;
 use crate::token::{Token, Word};
 
-// Where the scanner stands between two of its answers. A word is taken whole.
+// Where the scanner stands before a byte.
 #[derive(Clone, Copy)]
 enum State {
     Between,
+    // since this place
+    InWord(usize),
     InComment,
 }
 
-// It is its text, how far it has come and where it stands. To look ahead, copy it.
+// It is its text, how far it has come and whether it stands in a comment there: no answer leaves it in a word. To look
+// ahead, copy it.
 #[derive(Clone, Copy)]
 pub struct Scanner<'a> {
     text: &'a [u8],
     at: usize,
-    state: State,
-}
-
-// The length of the word at the front.
-fn word_length(bytes: &[u8]) -> usize
-    ensures letters { result ≡ prefix_len is_letter bytes.now }
-    ensures within { result ≤ length bytes.now }
-{
-    bytes
-        .iter()
-        .take_while(|&&byte| class_of(byte) == Class::Letter)
-        .count()
+    in_comment: bool,
 }
 
 impl<'a> Scanner<'a> {
@@ -43,7 +33,7 @@ impl<'a> Scanner<'a> {
         Scanner {
             text,
             at: 0,
-            state: State::Between,
+            in_comment: false,
         }
     }
 
@@ -63,24 +53,39 @@ impl<'a> Iterator for Scanner<'a> {
     ghost remaining = { item_count left };
 
     fn next(&mut self) -> Option<Self::Item> {
+        let mut state = if self.in_comment {
+            State::InComment
+        } else {
+            State::Between
+        };
         for &byte in self.text.get(self.at..)? {
-            let place = self.at;
+            // an answer leaves the scanner behind this byte: the place is counted by where it stands anyway
+            let here = self.at;
             self.at += 1;
-            match (self.state, class_of(byte)) {
-                (_, Class::Foreign) => return Some(Err(ScanFault::ForeignByte(place))),
-                (State::InComment, Class::LineFeed) => self.state = State::Between,
-                (State::InComment, _) => {}
-                (State::Between, Class::Blank | Class::LineFeed) => {}
-                (State::Between, Class::Semicolon) => self.state = State::InComment,
-                (State::Between, Class::Letter) => {
-                    self.at = place + word_length(&self.text[place..]);
-                    let bytes = &self.text[place..self.at];
+            self.in_comment = matches!(state, State::InComment);
+            match (state, class_of(byte)) {
+                (State::InWord(_), Class::Letter) => {}
+                (State::InWord(place), _) => {
+                    self.at = here;
+                    let bytes = &self.text[place..here];
                     return Some(token_of(Word { bytes, place }));
                 }
-                (State::Between, Class::Open) => return Some(Ok(Token::Open(place))),
-                (State::Between, Class::Close) => return Some(Ok(Token::Close(place))),
+                (_, Class::Foreign) => return Some(Err(ScanFault::ForeignByte(here))),
+                (State::InComment, Class::LineFeed) => state = State::Between,
+                (State::InComment, _) => {}
+                (State::Between, Class::Blank | Class::LineFeed) => {}
+                (State::Between, Class::Semicolon) => state = State::InComment,
+                (State::Between, Class::Letter) => state = State::InWord(here),
+                (State::Between, Class::Open) => return Some(Ok(Token::Open(here))),
+                (State::Between, Class::Close) => return Some(Ok(Token::Close(here))),
             }
         }
-        None
+        match state {
+            State::InWord(place) => {
+                let bytes = &self.text[place..];
+                Some(token_of(Word { bytes, place }))
+            }
+            _ => None,
+        }
     }
 }
