@@ -21,6 +21,7 @@ fn perform(case: &mut Case<'_>) -> Result<(), CaseError> {
         "host" => host_case(case),
         _ => Err(CaseError::Unreadable),
     }?;
+    // a word left behind is the error, not its absence, so no `ok_or`
     match case.request.words.next() {
         Some(_) => Err(CaseError::Unreadable),
         None => Ok(()),
@@ -30,6 +31,7 @@ fn perform(case: &mut Case<'_>) -> Result<(), CaseError> {
 // The line of answer.
 pub(crate) fn answer(heap: Global, asked: &str) -> Result<String, AllocError> {
     let mut case = Case::new(heap, asked);
+    // one of the two errors is an answer
     match perform(&mut case) {
         Ok(()) => Ok(case.line.text),
         Err(CaseError::Unreadable) => format!(in heap; "? {asked}"),

@@ -87,6 +87,7 @@ impl<B: Buffer> Memory for Lent<B> {
         ensures lent { OnOk result (B.Written self.old.buffer i v self.new.buffer) }
         ensures kept { OnErr result (self.new.buffer ≡ self.old.buffer) }
     {
+        // The buffer may have cells past the kind's limit, so it alone cannot refuse.
         if i >= Self::MAX_CELLS {
             return Err(Outside);
         }

@@ -81,6 +81,7 @@ pub(crate) fn elements(scanner: &mut Scanner, room: u32) -> Survey
     ensures past { pile_ahead scanner.new ≡ out (pile_ahead scanner.old) }
 {
     let mut found = Survey::NOTHING;
+    // no `for`: what reads an element goes on with the same scanner
     while let Some(token) = scanner.token() {
         if matches!(token, Token::Close(_)) {
             break;

@@ -72,6 +72,7 @@ impl PushHost for RehearsalHost {
     }
 
     fn put(&mut self, b: u8) -> Result<(), Full> {
+        // The capacity may be less than the array, so the array alone cannot refuse.
         if self.report.len >= self.capacity {
             return Err(Full);
         }

@@ -21,6 +21,7 @@ fn clear_cells<M: Memory>(memory: &mut M, from: usize, to: usize)
     ensures kept { Kept from (M.cells memory.old) to (M.cells memory.new) }
     ensures around { M.around memory.new ≡ M.around memory.old }
 {
+    // By number: a memory has no iterator. Each write lies inside, so that none is refused.
     for place in from..to {
         let _ = memory.write(place, 0);
     }
@@ -54,6 +55,7 @@ impl<'m, M: Memory> InUseMut<'m, M> {
         ensures keeps { Keeps self.old self.new }
     {
         if i < self.top {
+            // inside, so not refused
             let _ = self.memory.write(i, value);
         }
     }

@@ -14,6 +14,7 @@ fn append<H: PushHost>(host: &mut H, bytes: &[u8]) -> Result<(), Full>
     ensures facts { H.Facts.facts host.new ≡ H.Facts.facts host.old }
     ensures place { H.PushHost.place host.new ≡ H.PushHost.place host.old }
 {
+    // First the room for all, then the bytes, none of which is refused: `?` at each would leave the front of a text.
     if host.space() < bytes.len() {
         return Err(Full);
     }

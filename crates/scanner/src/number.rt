@@ -15,9 +15,11 @@ fn magnitude_of(bytes: &[u8]) -> Option<i64>
     requires { length bytes.now ≤ 16 }
     ensures { result ≡ plus (magnitude bytes.now) }
 {
+    // no digits are no number, though a sum over them would be 0
     if bytes.is_empty() {
         return None;
     }
+    // a `for` with `?`: in the closure of a fold the bound of the sum would have to be shown again
     let mut n = 0;
     for &byte in bytes {
         n = n * 10 + i64::from(char::from(byte).to_digit(10)?);
