@@ -11,10 +11,8 @@ fn perform<H: PushHost>(host: &mut H, case: &mut Case<'_>) -> Result<(), CaseErr
     // no `for`: an action takes the words behind its first from the same iterator
     while let Some(action) = case.request.words.next() {
         match action {
-            "b" => case.line.done(host.put(case.request.parse()?).is_ok())?,
-            "n" => case
-                .line
-                .done(write_number(host, case.request.parse()?).is_ok())?,
+            "b" => case.line.done(host.put(case.request.parse()?))?,
+            "n" => case.line.done(write_number(host, case.request.parse()?))?,
             "f" => case.line.found(host.fact(case.request.parse()?))?,
             "s" => case.line.word(host.space())?,
             "c" => case.line.word(host.count())?,

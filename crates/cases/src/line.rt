@@ -24,8 +24,12 @@ impl Line {
         write!(self.text, "{word}")
     }
 
-    pub(crate) fn done(&mut self, done: bool) -> Result<(), AllocError> {
-        self.word(if done { "ok" } else { "no" })
+    // `ok` or `no`: whether a call did what it was asked.
+    pub(crate) fn done<T: Drop, E: Drop>(
+        &mut self,
+        outcome: Result<T, E>,
+    ) -> Result<(), AllocError> {
+        self.word(if outcome.is_ok() { "ok" } else { "no" })
     }
 
     // A match: two closures could not both write to the line.

@@ -16,7 +16,7 @@ fn perform<M: Memory>(memory: &mut M, case: &mut Case<'_>) -> Result<(), CaseErr
             "w" => {
                 let place = case.request.parse()?;
                 let value = case.request.parse()?;
-                case.line.done(memory.write(place, value).is_ok())?;
+                case.line.done(memory.write(place, value))?;
             }
             _ => return Err(CaseError::Unreadable),
         }
