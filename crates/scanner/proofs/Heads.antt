@@ -1,10 +1,18 @@
 -- The word that begins a text: its letters, and what stands behind them.
-use Rattle.std.proofs.Common.{◌≡◌, ℕ, ◌+◌, cond, List, [], ◌∷◌, take, drop, refl, ap, one-add, arith, ◌∙◌, add-zero}
+use Rattle.std.proofs.Common.{◌≡◌, ℕ, Bool, true, false, ◌+◌, cond, List, [], ◌∷◌, take, drop, refl, ap, one-add, arith, ◌∙◌, add-zero}
 use Rattle.std.specs.List.{prefix_len}
-use Rattle.scanner.specs.Bytes.{class, letter, is_letter}
+use Rattle.scanner.specs.Bytes.{class}
 use Rattle.scanner.specs.Pieces.{between, in_word, if_letter, letters, pieces}
 use Rattle.scanner.specs.declared.class.Class.{Class}
 use Rattle.scanner.specs.declared.class.Class.TheVariants.{Letter}
+
+-- it belongs to a word
+abbrev pub letter : Class → Bool
+letter Letter = true
+letter _ = false
+
+abbrev pub is_letter : ℕ → Bool
+is_letter b = letter (class b)
 
 -- as far as the bytes are letters
 pub letters_taken : (bs : List ℕ) → take (prefix_len is_letter bs) bs ≡ letters bs

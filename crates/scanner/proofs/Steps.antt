@@ -3,14 +3,14 @@ use Rattle.std.proofs.Common.{◌≡◌, ℕ, ◌+◌, ◌-◌, ◌<◌, ◌≤�
 use Rattle.std.proofs.lemmas.List.{at_drop_more, drop-drop}
 use Rattle.std.proofs.lemmas.List.Sums.{prefix_len-drop_no}
 use Rattle.std.specs.List.{prefix_len}
-use Rattle.scanner.specs.Bytes.{class, letter, is_letter}
+use Rattle.scanner.specs.Bytes.{class}
 use Rattle.scanner.specs.Pieces.{Mode, between, in_word, in_comment, letters, step, pieces}
 use Rattle.scanner.specs.Words.{Item, item, word_item}
 use Rattle.scanner.specs.declared.class.Class.{Class}
 use Rattle.scanner.specs.declared.class.Class.TheVariants.{Letter}
 use Rattle.scanner.specs.declared.scanner.State.{State}
 use Rattle.scanner.specs.declared.scanner.State.TheVariants.{Between, InWord, InComment}
-use Rattle.scanner.proofs.Heads.{letters_taken, behind_word}
+use Rattle.scanner.proofs.Heads.{letter, is_letter, letters_taken, behind_word}
 
 module _ (text : List ℕ) (i : ℕ) (h : i < length text) (k : Class) (e : class (get_or text i 0) ≡ k) where
   pub look : (m : Mode) → pieces m i (drop i text) ≡ step m k (get_or text i 0) i (letters (drop i text)) (λ n. pieces n (i + 1) (drop (i + 1) text))

@@ -1,5 +1,5 @@
 -- The classes of bytes.
-use Rattle.std.specs.Prelude.{ℕ, Bool, true, false, cond, ◌&&◌, ◌||◌, ◌==◌, nat_le}
+use Rattle.std.specs.Prelude.{ℕ, cond, ◌&&◌, ◌||◌, ◌==◌, nat_le}
 use Rattle.scanner.specs.declared.class.Class.{Class}
 use Rattle.scanner.specs.declared.class.Class.TheVariants.{Blank, LineFeed, Open, Close, Semicolon, Letter, Foreign}
 
@@ -12,11 +12,3 @@ class b =
     (cond (b == 59) Semicolon
     (cond (b == 34) Foreign
     (cond (nat_le 33 b && nat_le b 126) Letter Foreign))))))
-
--- it belongs to a word
-abbrev pub letter : Class → Bool
-letter Letter = true
-letter _ = false
-
-abbrev pub is_letter : ℕ → Bool
-is_letter b = letter (class b)

@@ -59,7 +59,7 @@ impl<'a> Iterator for Scanner<'a> {
             State::Between
         };
         for &byte in self.text.get(self.at..)? {
-            // an answer leaves the scanner behind this byte: the place is counted by where it stands anyway
+            // an answer leaves it behind this byte, so `at` moves anyway: a zip with the places would count them twice
             let here = self.at;
             self.at += 1;
             self.in_comment = matches!(state, State::InComment);

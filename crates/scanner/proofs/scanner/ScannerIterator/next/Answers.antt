@@ -2,12 +2,13 @@ use Rattle.std.proofs.Common.{rules, ◌≡◌, ◌-◌, ◌<◌, ◌∷◌, map
 use Rattle.std.proofs.lemmas.Grind.{common_steps}
 use Rattle.std.proofs.lemmas.List.{at_drop_all}
 use Rattle.std.proofs.lemmas.List.Sums.{prefix_len-drop_all}
-use Rattle.scanner.specs.Bytes.{class, is_letter}
+use Rattle.scanner.specs.Bytes.{class}
 use Rattle.scanner.specs.Pieces.{between, pieces}
 use Rattle.scanner.specs.Scans.{left, mode, seen}
 use Rattle.scanner.specs.Words.{item, word_item}
 use Rattle.scanner.specs.declared.class.Class.TheVariants.{Letter}
 use Rattle.scanner.specs.declared.scanner.State.TheVariants.{InWord}
+use Rattle.scanner.proofs.Heads.{is_letter}
 use Rattle.scanner.proofs.Steps.{Going, goes_on, over, word_given}
 use Rattle.scanner.proofs.scanner.ScannerIterator.next.Goals as goal
 use Rattle.scanner.proofs.scanner.ScannerIterator.next.Goals.{in-InWord-Letter, in-InComment-LineFeed, in-InComment-default, in-Between-Blank, in-Between-Semicolon, in-Between-Letter}
@@ -33,7 +34,7 @@ loop-byte-preserved c =
     ]
 
 -- a word ended before this byte
-word : (c : goal.After-token_of) → left c.args.self.now ≡ seen c.token_of.result ∷ left (record c.loop-byte.self { in_comment = c.match-matches.self })
+word : (c : goal.After-token_of) → left c.args.self.now ≡ seen c.token_of.result ∷ map item (pieces between c.loop-byte.self.at (drop c.loop-byte.self.at c.loop-byte.self.text.now))
 word c =
     let me = c.loop-byte.self in
     let place = c.in-InWord-default.place in
@@ -46,7 +47,7 @@ word c =
     search rules
 
 pub returns-in-InWord-default-clause-steps : goal.returns-in-InWord-default-clause-steps
-returns-in-InWord-default-clause-steps c = word c
+returns-in-InWord-default-clause-steps c = let first = word c in search rules
 
 pub returns-in-InWord-default-clause-goes : goal.returns-in-InWord-default-clause-goes
 returns-in-InWord-default-clause-goes c = let shorter = ap length (word c) in search rules
