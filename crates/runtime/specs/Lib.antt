@@ -6,3 +6,4 @@ pub mod Stops
 pub mod System
 pub mod InUse
 pub mod InUseMut
+pub mod Hosts

@@ -1,4 +1,5 @@
-// The calls that change a stack. Each says what the cells and the depth are afterwards, and that the lent cells are still the same.
+// The calls that change a stack. Each says what the cells and the depth are afterwards, and that the lent cells are still the
+// same: one equation, which a name of its own would not make shorter.
 ghost use Rattle.std.specs.Prelude.{◌≡◌, ◌+◌, ◌-◌, min, [], ◌∷◌, reverse, length, take, replicate, is_ok, if◌then◌else◌, nat_lt, slice_set};
 ghost use Rattle.stack.specs.Held.{cells, depth, first, held, lent, rest};
 
