@@ -46,10 +46,8 @@ impl Nesting {
 pub(crate) fn nest(text: &[u8]) -> Result<(), FormFault>
     ensures { result ≡ first_of (nest_faults Before (length text.now) (lexemes_of text.now)) tt }
 {
-    let mut scanner = Scanner::new(text);
     let mut nesting = Nesting::Before;
-    // `token` and no `for`: a `for` over the scanner gives its faults too, which were told before
-    while let Some(token) = scanner.token() {
+    for token in Scanner::new(text).tokens() {
         nesting = nesting.past(token)?;
     }
     match nesting {

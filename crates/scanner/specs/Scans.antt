@@ -2,6 +2,7 @@
 use Rattle.std.specs.Prelude.{◌≡◌, ℕ, Bool, true, false, List, [], ◌∷◌, map, drop, Some, None, Ok, Err, Option, Result}
 use Rattle.scanner.specs.declared.fault.ScanFault.{ScanFault}
 use Rattle.scanner.specs.declared.scanner.Scanner.{Scanner}
+use Rattle.scanner.specs.declared.scanner.Tokens.{Tokens}
 use Rattle.scanner.specs.declared.token.Token.{Token}
 use Rattle.scanner.specs.declared.token.Token.TheVariants as token
 use Rattle.scanner.specs.Pieces.{Mode, between, in_comment, pieces, pieces_of}
@@ -28,6 +29,10 @@ lexemes_of text = lexemes (items_of text)
 
 abbrev pub ahead : Scanner → List Lexeme
 ahead s = lexemes (left s)
+
+-- the tokens that an iterator over them has yet to give
+abbrev pub coming : Tokens → List Lexeme
+coming ts = ahead ts.0
 
 abbrev pub lexeme : Token → Lexeme
 lexeme (token.Open p) = opens p

@@ -1,7 +1,7 @@
 // The scanner: one token after another, or what is wrong in its place.
 ghost use Rattle.std.specs.Prelude.{◌≡◌};
 ghost use Rattle.std.specs.Iterator.{YieldsFirstBy, item_count};
-ghost use Rattle.scanner.specs.Scans.{ahead, items_of, left, Next, seen};
+ghost use Rattle.scanner.specs.Scans.{ahead, coming, items_of, left, lexeme, Next, seen};
 
 use crate::class::{Class, class_of};
 use crate::fault::ScanFault;
@@ -42,6 +42,29 @@ impl<'a> Scanner<'a> {
         ensures { Next (ahead self.old) result (ahead self.new) }
     {
         self.find_map(Result::ok)
+    }
+
+    // The tokens ahead.
+    pub fn tokens(self) -> Tokens<'a>
+        ensures { coming result ≡ ahead self.entry }
+    {
+        Tokens(self)
+    }
+}
+
+// The tokens of a scanner, one after another, past any fault.
+#[derive(Clone, Copy)]
+pub struct Tokens<'a>(Scanner<'a>);
+
+impl<'a> Iterator for Tokens<'a> {
+    type Item = Token<'a>;
+
+    ghost next_gives = { YieldsFirstBy lexeme coming };
+
+    ghost remaining = { item_count coming };
+
+    fn next(&mut self) -> Option<Token<'a>> {
+        self.0.token()
     }
 }
 

@@ -26,10 +26,8 @@ fn first_end(text: &[u8]) -> usize
     ensures answer { result ≡ cut 0 false (length text.now) (lexemes_of text.now) }
     ensures within { result ≤ length text.now }
 {
-    let mut scanner = Scanner::new(text);
     let mut standing = Standing::First;
-    // `token` and no `for`: a `for` over the scanner gives its faults too, which end no text
-    while let Some(token) = scanner.token() {
+    for token in Scanner::new(text).tokens() {
         standing = match (standing, token) {
             (Standing::First, Token::Open(_)) => Standing::Inside(1),
             (Standing::Stray, Token::Open(place)) => return place,

@@ -6,7 +6,4 @@ use Rattle.reader.proofs.nesting.nest.Given as goal
 
 abbrev pub invariant-loop-token : goal.invariant-loop-token
 invariant-loop-token l =
-    first_of (nest_faults l.nesting (length l.text) (ahead l.scanner)) (tt {0}) ≡ first_of (nest_faults Before (length l.text) (ahead l.initial.scanner)) (tt {0})
-
-abbrev pub decreases-loop-token : goal.decreases-loop-token
-decreases-loop-token l = length (ahead l.scanner)
+    first_of (nest_faults l.nesting (length l.text) (ahead l.token-iterator.0)) (tt {0}) ≡ first_of (nest_faults Before (length l.text) (ahead l.initial.token-iterator.0)) (tt {0})

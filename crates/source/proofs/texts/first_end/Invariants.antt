@@ -7,10 +7,7 @@ use Rattle.source.proofs.texts.first_end.Given as goal
 
 abbrev pub invariant-loop-token : goal.invariant-loop-token
 invariant-loop-token l =
-    (deep l.standing + length (ahead l.scanner) ≤ length l.text)
+    (deep l.standing + length (ahead l.token-iterator.0) ≤ length l.text)
     × Opened l.standing
-    × Below (length l.text) (ahead l.scanner)
-    × (cut (deep l.standing) (stray l.standing) (length l.text) (ahead l.scanner) ≡ cut 0 false (length l.text) (ahead l.initial.scanner))
-
-abbrev pub decreases-loop-token : goal.decreases-loop-token
-decreases-loop-token l = length (ahead l.scanner)
+    × Below (length l.text) (ahead l.token-iterator.0)
+    × (cut (deep l.standing) (stray l.standing) (length l.text) (ahead l.token-iterator.0) ≡ cut 0 false (length l.text) (ahead l.initial.token-iterator.0))
