@@ -63,7 +63,10 @@ impl fmt::Display for Refused<'_> {
             location,
             place: text.place(refusal.place),
         };
-        write!(f, "{path}:{line}:{column}: refused with {number} (pass {pass}): ")?;
+        write!(
+            f,
+            "{path}:{line}:{column}: refused with {number} (pass {pass}): "
+        )?;
         self.write_why(f)?;
         write!(f, "\n{excerpt}")?;
         self.write_help(f)
