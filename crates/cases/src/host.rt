@@ -10,6 +10,7 @@ use runtime::system::write_number;
 fn perform<H: PushHost>(host: &mut H, case: &mut Case<'_>) -> Result<(), CaseError> {
     // no `for`: an action takes the words behind its first from the same iterator
     while let Some(action) = case.request.words.next() {
+        // the match is the table of the actions, each with words of its own
         match action {
             "b" => case.line.done(host.put(case.request.parse()?))?,
             "n" => case.line.done(write_number(host, case.request.parse()?))?,
@@ -35,6 +36,7 @@ fn live_case(capacity: usize, case: &mut Case<'_>) -> Result<(), CaseError> {
 // The facts before the colon, `-` for none.
 fn facts_of(case: &mut Case<'_>) -> Result<Vec<i32>, CaseError> {
     let mut facts = Vec::new(case.heap);
+    // a `for`: it is left at the colon, and a line without one cannot be read
     for word in case.request.words.by_ref() {
         match word {
             ":" => return Ok(facts),

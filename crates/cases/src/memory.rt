@@ -11,6 +11,7 @@ fn perform<M: Memory>(memory: &mut M, case: &mut Case<'_>) -> Result<(), CaseErr
     case.line.word(memory.len())?;
     // no `for`: an action takes the words behind its first from the same iterator
     while let Some(action) = case.request.words.next() {
+        // the match is the table of the actions, each with words of its own
         match action {
             "r" => case.line.found(memory.read(case.request.parse()?))?,
             "w" => {

@@ -3,7 +3,7 @@ use reader::keyword::Keyword;
 use scanner::scanner::Scanner;
 use scanner::token::Token;
 
-// The shape that goes with the head of a form.
+// The shape that goes with the head of a form: a hint of this program, not the keyword's own word, and so no `Display`.
 fn shape_words(head: Keyword) -> &'static str {
     match head {
         Keyword::Def => "a function is (def name (formals) (locals) e)",

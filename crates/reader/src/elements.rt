@@ -8,7 +8,8 @@ use crate::shape::{Leading, shape_of};
 use scanner::scanner::Scanner;
 use scanner::token::Token;
 
-// What was found of elements: how many, whether all are names, and the place of the first form without a shape.
+// What was found of elements: how many, whether all are names, and the place of the first form without a shape. A bool for
+// the second, since it guards no value: the count holds either way.
 #[derive(Clone, Copy)]
 pub(crate) struct Survey {
     pub(crate) count: usize,
@@ -66,6 +67,7 @@ fn has_shape(elements: &Scanner, number: usize) -> bool
     ensures { result ≡ fits (forest_ahead elements.now) }
 {
     let mut scanner = *elements;
+    // a question, so without a name at the head the answer is no, and no error
     let Some(Token::Name(head)) = scanner.token() else {
         return false;
     };

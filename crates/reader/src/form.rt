@@ -21,6 +21,7 @@ const GREATEST: i128 = 8_388_607;
 fn counts_in_range(first: i32, count: usize) -> bool
     ensures { result ≡ int_le (first +ℤ pos (count - 1)) (pos 8388607) }
 {
+    // `as`, which loses nothing: no `From` goes from a usize to an i128
     i128::from(first) + count.saturating_sub(1) as i128 <= GREATEST
 }
 

@@ -85,6 +85,7 @@ impl<'m, M: Memory> InUseMut<'m, M> {
         let old = self.top;
         clear_cells(self.memory, old, old + more);
         self.top += more;
+        // `as` loses nothing: no memory has over 65,536 cells
         Ok(old as i32)
     }
 }

@@ -21,7 +21,7 @@ pub enum Class {
 pub fn class_of(byte: u8) -> Class
     ensures { result ≡ class byte }
 {
-    match byte as char {
+    match char::from(byte) {
         '\t' | '\r' | ' ' => Class::Blank,
         '\n' => Class::LineFeed,
         '(' => Class::Open,

@@ -46,7 +46,9 @@ pub(crate) fn token_of<'a>(word: Word<'a>) -> Result<Token<'a>, ScanFault>
         return Err(ScanFault::WordTooLong(word.place));
     }
     match value_of(word.bytes) {
+        // a word that is no number is a name, and no error
         None => Ok(Token::Name(word)),
+        // `as` loses nothing within these bounds
         Some(value @ LEAST..=GREATEST) => Ok(Token::Number(word, value as i32)),
         Some(_) => Err(ScanFault::OutOfRange(word.place)),
     }

@@ -45,6 +45,7 @@ fn fun_in(argument: i32) -> Option<Instruction>
 {
     let packed = place_in(argument)?;
     let formals = u8::try_from(packed / 256).ok()?;
+    // `as` loses nothing of a remainder
     let variables = (packed % 256) as u8;
     is_head(formals, variables).then_some(Instruction::Fun { formals, variables })
 }

@@ -73,6 +73,7 @@ impl From<Opcode> for u8 {
     ghost from_gives = { λ opcode number. number ≡ number_of opcode };
 
     fn from(opcode: Opcode) -> u8 {
+        // the discriminant, which only `as` gives
         opcode as u8
     }
 }

@@ -35,6 +35,7 @@ impl From<SystemCall> for i32 {
     ghost from_gives = { λ call number. number ≡ pos (system_number call) };
 
     fn from(call: SystemCall) -> i32 {
+        // the discriminant, which only `as` gives
         call as i32
     }
 }

@@ -4,6 +4,7 @@ ghost use Rattle.scode.specs.Words.{fields, joined};
 
 #[derive(Clone, Copy)]
 pub struct Fields {
+    // any byte, also one that is no opcode
     pub opcode: u8,
     pub argument: i32,
 }
@@ -19,6 +20,7 @@ pub fn split(word: u32) -> Fields
     ensures again { joined result ≡ Some word }
 {
     Fields {
+        // `as` loses nothing behind the mask
         opcode: (word & 0xff) as u8,
         argument: word.cast_signed() >> 8,
     }

@@ -16,6 +16,7 @@ fn header(rule: &BorrowedRule<'_>) -> Result<[u8; HEADER_BYTES], StoreFault>
     let globals = u16::try_from(rule.globals).map_err(|_| StoreFault::Globals)?;
     let entry = u16::try_from(rule.entry).map_err(|_| StoreFault::Entry)?;
     let [v0, v1] = VERSION.to_le_bytes();
+    // `as` loses nothing: the number was compared above
     let [w0, w1] = (rule.words.len() as u16).to_le_bytes();
     let [g0, g1] = globals.to_le_bytes();
     let [e0, e1] = entry.to_le_bytes();
