@@ -1,7 +1,7 @@
 // A push record: what the server tells of a push, as bytes.
 ghost use Rattle.std.specs.Prelude.{◌≡◌, ◌*◌, ◌≤◌, [], length, IfOk};
 
-use packing::cell_at;
+use packing::{WORD_BYTES, cell_at};
 use runtime::host::Facts;
 use std::error::Error;
 use std::fmt;
@@ -11,9 +11,6 @@ const HEADER_LEN: usize = 6;
 const VERSION: u16 = 1;
 
 const MOST_FACTS: usize = 64;
-
-// How many bytes one fact has.
-const FACT_LEN: usize = 4;
 
 // Why bytes are no push record.
 #[derive(Clone, Copy, Debug, PartialEq, Eq)]
@@ -96,7 +93,7 @@ impl<'a> PushRecord<'a> {
         if count > MOST_FACTS {
             return Err(RecordFault::TooManyFacts);
         }
-        if rest.len() != FACT_LEN * count {
+        if rest.len() != WORD_BYTES * count {
             return Err(RecordFault::Length);
         }
         Ok(PushRecord { numbers: rest })
@@ -128,7 +125,7 @@ impl Facts for PushRecord<'_> {
 
     #[tactic(auto, using(packing::proofs::Cells::length_cells))]
     fn count(&self) -> usize {
-        self.numbers.len() / FACT_LEN
+        self.numbers.len() / WORD_BYTES
     }
 
     fn fact(&self, k: usize) -> Option<i32> {

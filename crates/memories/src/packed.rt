@@ -7,7 +7,7 @@ ghost use Rattle.memories.specs.Kinds.{bytes_behind};
 ghost use Rattle.memories.specs.Laws.{packed_behind, packed_cells};
 
 use crate::lent::{Buffer, Lent, Part};
-use packing::{cell_at, set_word};
+use packing::{WORD_BYTES, cell_at, set_word};
 use runtime::memory::Outside;
 
 pub type Packed<'a> = Lent<&'a mut [u8]>;
@@ -32,7 +32,7 @@ impl Buffer for &mut [u8] {
     ghost Written = { λ a i v b. b.now ≡ packed_in a.now i (of_z w32 v) };
 
     fn cell_count(&self) -> usize {
-        self.len() / 4
+        self.len() / WORD_BYTES
     }
 
     fn cell(&self, i: usize) -> Option<i32> {

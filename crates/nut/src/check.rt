@@ -9,13 +9,8 @@ use std::fs;
 // The definitions of the file in order, then their number.
 pub(crate) fn report_on(heap: Global, path: &str, file: &[u8]) -> Result<Report, AllocError> {
     let mut report = Report::new(heap);
-    for part in Texts::of(file) {
-        report.add(Text {
-            path,
-            file,
-            from: part.place,
-            bytes: part.bytes,
-        })?;
+    for part in Texts::new(file) {
+        report.add(Text { path, file, part })?;
     }
     report.sum_up(path)?;
     Ok(report)

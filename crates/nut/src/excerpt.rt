@@ -30,6 +30,20 @@ fn margin(byte: u8) -> char {
     if byte == b'\t' { '\t' } else { ' ' }
 }
 
+// A letter for each byte.
+fn write_letters<W: fmt::Write, L: Fn(u8) -> char + Drop>(
+    f: &mut fmt::Formatter<W>,
+    bytes: &[u8],
+    letter: L,
+) -> fmt::Result
+    requires { L.IsAlwaysCallable letter }
+{
+    for byte in bytes {
+        f.write_char(letter(*byte))?;
+    }
+    Ok(())
+}
+
 impl fmt::Display for Excerpt<'_> {
     fn fmt<W: fmt::Write>(&self, f: &mut fmt::Formatter<W>) -> fmt::Result {
         let from = self.location.start.max(self.place.saturating_sub(BEFORE));
@@ -37,13 +51,10 @@ impl fmt::Display for Excerpt<'_> {
         let before = self.file.get(from..self.place).unwrap_or(&[]);
         let behind = self.file.get(self.place..to).unwrap_or(&[]);
         f.write_str("    ")?;
-        for byte in before.iter().chain(behind) {
-            f.write_char(shown(*byte))?;
-        }
+        write_letters(f, before, shown)?;
+        write_letters(f, behind, shown)?;
         f.write_str("\n    ")?;
-        for byte in before {
-            f.write_char(margin(*byte))?;
-        }
+        write_letters(f, before, margin)?;
         f.write_char('^')
     }
 }

@@ -23,11 +23,13 @@ fn shape_words(head: Keyword) -> &'static str {
     }
 }
 
+const NO_DEFINITION: &str = "a definition begins with def, let or enum";
+
 // The same where a definition should stand.
 fn definition_words(head: Keyword) -> &'static str {
     match head {
         Keyword::Def | Keyword::Let | Keyword::Enum => shape_words(head),
-        _ => "a definition begins with def, let or enum",
+        _ => NO_DEFINITION,
     }
 }
 
@@ -45,7 +47,7 @@ pub(crate) fn hint(text: &[u8], outermost: bool) -> &'static str {
         }
         Some(keyword) if outermost => definition_words(keyword),
         Some(keyword) => shape_words(keyword),
-        None if outermost => "a definition begins with def, let or enum",
+        None if outermost => NO_DEFINITION,
         None => "formals and locals are names alone, 15 formals and 64 of both at most",
     }
 }

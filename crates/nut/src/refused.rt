@@ -3,7 +3,8 @@ use crate::excerpt::Excerpt;
 use crate::hint::hint;
 use crate::text::Text;
 use reader::fault::FormFault;
-use scanner::fault::ScanFault;
+use scanner::fault::{Refusal, ScanFault};
+use source::location::Location;
 use std::fmt;
 
 #[derive(Clone, Copy)]
@@ -20,26 +21,30 @@ impl Refused<'_> {
             && self.text.first_place().is_none()
     }
 
-    // Why; only whoever has the text sees that it ends before its form is closed.
+    // Whether the text ends before its form is closed: the fault has the place alone.
+    fn is_unclosed(self) -> bool {
+        matches!(self.fault, FormFault::NotOneForm(place) if place >= self.text.part.bytes.len())
+    }
+
+    // Why.
     fn write_why<W: fmt::Write>(self, f: &mut fmt::Formatter<W>) -> fmt::Result {
-        match self.fault {
-            FormFault::NotOneForm(place) if place == self.text.bytes.len() => {
-                f.write_str("the text ends here, before its form is closed")
-            }
-            fault => write!(f, "{fault}"),
+        if self.is_unclosed() {
+            return f.write_str("the text ends here, before its form is closed");
         }
+        let fault = self.fault;
+        write!(f, "{fault}")
     }
 
     // What helps to mend it, if there is something to say.
     fn write_help<W: fmt::Write>(self, f: &mut fmt::Formatter<W>) -> fmt::Result {
         let first = self.text.first_place().unwrap_or(0);
+        if self.is_unclosed() {
+            let line = self.text.locate(first).line;
+            return write!(f, "\n    the form begins on line {line}");
+        }
         match self.fault {
-            FormFault::NotOneForm(place) if place >= self.text.bytes.len() => {
-                let line = self.text.locate(first).line;
-                write!(f, "\n    the form begins on line {line}")
-            }
-            FormFault::NoShape(place) if place < self.text.bytes.len() => {
-                let words = hint(&self.text.bytes[place..], place == first);
+            FormFault::NoShape(place) if place < self.text.part.bytes.len() => {
+                let words = hint(&self.text.part.bytes[place..], place == first);
                 write!(f, "\n    {words}")
             }
             _ => Ok(()),
@@ -54,10 +59,8 @@ impl fmt::Display for Refused<'_> {
         let refusal = fault.refusal();
         let location = text.locate(refusal.place);
         let path = text.path;
-        let line = location.line;
-        let column = location.column;
-        let number = refusal.number;
-        let pass = refusal.pass;
+        let Location { line, column, .. } = location;
+        let Refusal { number, pass, .. } = refusal;
         let excerpt = Excerpt {
             file: text.file,
             location,

@@ -25,7 +25,7 @@ impl Report {
 
     // Reads one text of the file.
     pub(crate) fn add(&mut self, text: Text<'_>) -> Result<(), AllocError> {
-        match read(text.bytes) {
+        match read(text.part.bytes) {
             Ok(definition) => self.add_accepted(text, definition),
             Err(fault) => self.add_refused(Refused { text, fault }),
         }

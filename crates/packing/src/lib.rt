@@ -5,7 +5,10 @@ ghost use Rattle.std.specs.Prelude.{◌≡◌, ◌/◌, length, if◌then◌else
 ghost use Rattle.std.specs.List.{slice_get};
 ghost use Rattle.packing.specs.Packing.{cells_of, packed_in, words_in};
 
-// No number of that place lies whole in the bytes.
+// How many bytes one number has.
+pub const WORD_BYTES: usize = 4;
+
+// No number of that place lies whole in the bytes. Not the error of a memory, which this crate does not know.
 #[derive(Clone, Copy, Debug, PartialEq, Eq)]
 pub struct Outside;
 
@@ -13,7 +16,7 @@ pub struct Outside;
 pub fn word_at(bytes: &[u8], i: usize) -> Option<u32>
     ensures { result ≡ slice_get (words_in bytes.now) i }
 {
-    let (words, _) = bytes.as_chunks::<4>();
+    let (words, _) = bytes.as_chunks::<WORD_BYTES>();
     words.get(i).copied().map(u32::from_le_bytes)
 }
 
@@ -29,11 +32,11 @@ pub fn set_word(bytes: &mut [u8], i: usize, word: u32) -> Result<(), Outside>
     ensures answer { is_ok result ≡ nat_lt i (length bytes.old / 4) }
     ensures after { bytes.new ≡ (if is_ok result then packed_in bytes.old i word else bytes.old) }
 {
-    if i >= bytes.len() / 4 {
+    if i >= bytes.len() / WORD_BYTES {
         return Err(Outside);
     }
-    // By a chunk that is borrowed to write (chunks_exact_mut, get_mut) the proof does not close: std does not say what the bytes are then.
-    let at = 4 * i;
-    bytes[at..at + 4].copy_from_slice(&word.to_le_bytes());
+    // By a chunk of chunks_exact_mut or a part of get_mut the proof does not close: std does not say what the bytes are then.
+    let at = WORD_BYTES * i;
+    bytes[at..at + WORD_BYTES].copy_from_slice(&word.to_le_bytes());
     Ok(())
 }

@@ -8,6 +8,7 @@ use crate::fault::FormFault;
 use crate::keyword::Keyword;
 use crate::list::List;
 use crate::nesting::DEEPEST;
+use scanner::number::GREATEST;
 use scanner::scanner::Scanner;
 use scanner::token::{Token, Word};
 
@@ -15,14 +16,12 @@ const MOST_FORMALS: usize = 15;
 
 const MOST_VARIABLES: usize = 64;
 
-const GREATEST: i128 = 8_388_607;
-
 // Whether the last of so many numbers is one that a text may say.
 fn counts_in_range(first: i32, count: usize) -> bool
     ensures { result ≡ int_le (first +ℤ pos (count - 1)) (pos 8388607) }
 {
     // `as`, which loses nothing: no `From` goes from a usize to an i128
-    i128::from(first) + count.saturating_sub(1) as i128 <= GREATEST
+    i128::from(first) + count.saturating_sub(1) as i128 <= i128::from(GREATEST)
 }
 
 // What is still to come of the form whose opening parenthesis stands at the place.
@@ -37,6 +36,7 @@ impl<'a> Form<'a> {
     ghost use Rattle.reader.specs.Definitions.{defined, definition_faults, enumeration_defined, enumeration_faults, function_defined, function_faults, global_defined, global_faults};
     ghost use Rattle.reader.specs.Parts.{ReadsAs, TakesList, TakesName};
 
+    // By a copy of the rest, here and in `list`: an error leaves the form as it was, which its ghost field asks.
     fn name(&mut self) -> Result<Word<'a>, FormFault>
         ensures { TakesName self.old result self.new }
     {

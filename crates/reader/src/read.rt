@@ -25,6 +25,6 @@ pub fn read(text: &[u8]) -> Result<Definition<'_>, FormFault>
     let mut rest = Scanner::new(text);
     match rest.token() {
         Some(Token::Open(place)) => Form { place, rest }.definition(),
-        _ => unreachable(),
+        _ => unreachable!(),
     }
 }

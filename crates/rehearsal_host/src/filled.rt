@@ -3,8 +3,8 @@ ghost use Rattle.std.specs.Prelude.{◌≡◌, ◌+◌, ◌<◌, ◌≤◌, leng
 
 use std::alloc::AllocError;
 
-// Its first `len` places are filled; what the others hold is not part of it. An array and a length, since the host goes by
-// value and takes nothing from the heap.
+// Its first `len` places are filled; what the others hold is not part of it. An array and a length, since the host is
+// `Copy`, which the kit's `ArrayVec` is not.
 pub(crate) struct Filled<T, const N: usize> {
     pub(crate) items: [T; N],
     pub(crate) len: usize,

@@ -3,7 +3,7 @@ ghost use Rattle.std.specs.Borrow.{GName};
 ghost use Rattle.std.specs.Prelude.{◌≡◌, ℕ, ◌≤◌, List, [], ◌∷◌, ◌++◌, length, drop, ℤ, is_ok, if◌then◌else◌, nat_lt};
 ghost use Rattle.std.specs.List.{slice_get};
 
-// The report has no room for one more byte.
+// The report has no room for one more byte. An error of its own, as is the stack's: neither crate stands on the other.
 #[derive(Clone, Copy, Debug, PartialEq, Eq)]
 pub struct Full;
 

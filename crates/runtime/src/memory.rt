@@ -3,7 +3,7 @@ ghost use Rattle.std.specs.Prelude.{◌≡◌, ℕ, ◌≤◌, List, length, ℤ
 ghost use Rattle.std.specs.List.{slice_get};
 ghost use Rattle.runtime.specs.Meanings.{Around};
 
-// There is no cell at that place.
+// There is no cell at that place. An error of its own, as is packing's: neither crate stands on the other.
 #[derive(Clone, Copy, Debug, PartialEq, Eq)]
 pub struct Outside;
 

@@ -39,7 +39,8 @@ impl Stop {
     pub fn number(self) -> u8
         ensures { result ≡ number_of self }
     {
-        // A table, and no discriminants: two stops may not share one, and the compiler would find what the contract has to.
+        // A table, and no discriminants: with these a stop by another's number would not compile, so that no planted bug could
+        // show that the contract finds it.
         match self {
             Stop::Allowance => 20,
             Stop::PendingFull => 21,

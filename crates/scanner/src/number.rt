@@ -8,7 +8,7 @@ use crate::token::{Token, Word};
 
 const LEAST: i64 = -8_388_608;
 
-const GREATEST: i64 = 8_388_607;
+pub const GREATEST: i64 = 8_388_607;
 
 // What digits say, at least one; of other bytes none.
 fn magnitude_of(bytes: &[u8]) -> Option<i64>

@@ -52,7 +52,8 @@ impl<'a> Scanner<'a> {
     }
 }
 
-// The tokens of a scanner, one after another, past any fault.
+// The tokens of a scanner, one after another, past any fault. A type with a name, since no function can return a chain without
+// one.
 #[derive(Clone, Copy)]
 pub struct Tokens<'a>(Scanner<'a>);
 

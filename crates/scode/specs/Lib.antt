@@ -2,3 +2,4 @@ pub mod Instructions
 pub mod Opcode
 pub mod SystemCall
 pub mod Words
+pub mod Unknown

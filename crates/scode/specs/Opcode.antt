@@ -1,9 +1,8 @@
 -- The number of each opcode, and the opcode of a number.
-use Rattle.std.specs.Prelude.{◌≡◌, ◌==◌, ℕ, List, [], ◌∷◌, ◌++◌, codes, find, Option, Result, ok_or}
-use Rattle.std.specs.Fmt.{decimal}
+use Rattle.std.specs.Prelude.{◌≡◌, ◌==◌, ℕ, List, [], ◌∷◌, pos, find, Option, Result, ok_or}
 use Rattle.scode.specs.declared.opcode.Opcode.{Opcode}
 use Rattle.scode.specs.declared.opcode.Opcode.TheVariants.{New, Add, Sub, Eq, Lt, Gt, Call, Get, Put, Lit, Ldx, Stx, Fun, Sys, Ld, St, Ldy, Sty, Jmp, Jf, Pop, Ret}
-use Rattle.scode.specs.declared.opcode.UnknownOpcode.{UnknownOpcode}
+use Rattle.scode.specs.declared.unknown.UnknownNumber.{UnknownNumber}
 
 abbrev pub number_of : Opcode → ℕ
 number_of New = 5
@@ -36,9 +35,6 @@ all_opcodes = New ∷ Add ∷ Sub ∷ Eq ∷ Lt ∷ Gt ∷ Call ∷ Get ∷ Put 
 abbrev pub opcode_of : ℕ → Option Opcode
 opcode_of n = find (λ opcode. number_of opcode == n) all_opcodes
 
--- the result is that opcode, or says that no opcode has the number
-abbrev pub NamesOpcode : ℕ → Result Opcode UnknownOpcode → Type 0
-NamesOpcode n r = r ≡ ok_or (opcode_of n) (record { 0 = n })
-
-abbrev pub unknown_opcode_text : UnknownOpcode → List ℕ
-unknown_opcode_text e = codes "no opcode has the number " ++ decimal e.0
+-- the result is that opcode, or says that the number stands for nothing
+abbrev pub NamesOpcode : ℕ → Result Opcode UnknownNumber → Type 0
+NamesOpcode n r = r ≡ ok_or (opcode_of n) (record { 0 = pos n })

@@ -7,7 +7,7 @@ use crate::opcode::Opcode;
 use crate::system_call::SystemCall;
 use crate::words::{Fields, MOST_ARGUMENT, join, split};
 
-// A function's formals are the first of its variables.
+// A function's formals are the first of its variables. The reader has these limits too, and neither crate stands on the other.
 const MOST_FORMALS: u8 = 15;
 
 const MOST_VARIABLES: u8 = 64;
@@ -32,7 +32,7 @@ fn place_in(argument: i32) -> Option<u32>
     u32::try_from(argument).ok()
 }
 
-// Two numbers, as the instruction has them: a struct of them would be taken apart at once.
+// Two numbers, as the public variant of the instruction has them.
 fn is_head(formals: u8, variables: u8) -> bool
     ensures { result ≡ is_head formals variables }
 {
@@ -81,7 +81,7 @@ fn known(fields: Fields) -> Option<Instruction>
     }
 }
 
-// Not `From` and `TryFrom`: their one member would join the two facts that each call promises.
+// Not `From` and `TryFrom`: two facts with names of their own read better than the one member of a trait.
 #[tactic(auto, using(crate::proofs::Codes::encoded_decoded))]
 pub fn decode(word: u32) -> Instruction
     ensures answer { result ≡ decoded word }

@@ -2,7 +2,7 @@
 ghost use Rattle.std.specs.Prelude.{◌≡◌};
 ghost use Rattle.scode.specs.Instructions.{name_of};
 
-use crate::system_call::SystemCall;
+pub use crate::system_call::SystemCall;
 
 // Nothing compares instructions, and a proof that a derived `==` means `≡` met the check's limit.
 #[derive(Clone, Copy)]
@@ -40,7 +40,7 @@ pub enum Instruction {
 }
 
 impl Instruction {
-    // Not `Display`: callers want the name as text, to put it in a column.
+    // Not `Display`: the name alone is a text, and what is printed of an instruction has its argument too.
     pub fn mnemonic(&self) -> &'static str
         ensures { result.now ≡ name_of self.now }
     {

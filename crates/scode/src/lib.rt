@@ -5,4 +5,5 @@ pub mod code;
 pub mod instruction;
 pub mod opcode;
 pub mod system_call;
+pub mod unknown;
 pub mod words;

@@ -1,9 +1,8 @@
 // The opcodes of S-code and their numbers.
-ghost use Rattle.std.specs.Prelude.{◌≡◌, Some};
-ghost use Rattle.scode.specs.Opcode.{NamesOpcode, number_of, unknown_opcode_text};
+ghost use Rattle.std.specs.Prelude.{◌≡◌};
+ghost use Rattle.scode.specs.Opcode.{NamesOpcode, number_of};
 
-use std::error::Error;
-use std::fmt;
+use crate::unknown::UnknownNumber;
 
 #[derive(Clone, Copy)]
 pub enum Opcode {
@@ -31,16 +30,12 @@ pub enum Opcode {
     Ret = 36,
 }
 
-// A number that no opcode has.
-#[derive(Clone, Copy, Debug, PartialEq, Eq)]
-pub struct UnknownOpcode(pub u8);
-
 impl TryFrom<u8> for Opcode {
-    type Error = UnknownOpcode;
+    type Error = UnknownNumber;
 
     ghost try_from_gives = { NamesOpcode };
 
-    fn try_from(number: u8) -> Result<Self, UnknownOpcode> {
+    fn try_from(number: u8) -> Result<Self, UnknownNumber> {
         match number {
             5 => Ok(Opcode::New),
             6 => Ok(Opcode::Add),
@@ -64,7 +59,7 @@ impl TryFrom<u8> for Opcode {
             34 => Ok(Opcode::Jf),
             35 => Ok(Opcode::Pop),
             36 => Ok(Opcode::Ret),
-            _ => Err(UnknownOpcode(number)),
+            _ => Err(UnknownNumber(i32::from(number))),
         }
     }
 }
@@ -77,13 +72,3 @@ impl From<Opcode> for u8 {
         opcode as u8
     }
 }
-
-impl fmt::Display for UnknownOpcode {
-    ghost output = { λ e. Some (unknown_opcode_text e) };
-
-    fn fmt<W: fmt::Write>(&self, f: &mut fmt::Formatter<W>) -> fmt::Result {
-        write!(f, "no opcode has the number {}", self.0)
-    }
-}
-
-impl Error for UnknownOpcode {}

@@ -1,9 +1,8 @@
 // What sys asks of the host, and its numbers.
-ghost use Rattle.std.specs.Prelude.{◌≡◌, pos, Some};
-ghost use Rattle.scode.specs.SystemCall.{NamesSystemCall, system_number, unknown_system_call_text};
+ghost use Rattle.std.specs.Prelude.{◌≡◌, pos};
+ghost use Rattle.scode.specs.SystemCall.{NamesSystemCall, system_number};
 
-use std::error::Error;
-use std::fmt;
+use crate::unknown::UnknownNumber;
 
 #[derive(Clone, Copy)]
 pub enum SystemCall {
@@ -12,21 +11,17 @@ pub enum SystemCall {
     Fact = 3,
 }
 
-// A number that no system call has.
-#[derive(Clone, Copy, Debug, PartialEq, Eq)]
-pub struct UnknownSystemCall(pub i32);
-
 impl TryFrom<i32> for SystemCall {
-    type Error = UnknownSystemCall;
+    type Error = UnknownNumber;
 
     ghost try_from_gives = { NamesSystemCall };
 
-    fn try_from(number: i32) -> Result<Self, UnknownSystemCall> {
+    fn try_from(number: i32) -> Result<Self, UnknownNumber> {
         match number {
             1 => Ok(SystemCall::Number),
             2 => Ok(SystemCall::Byte),
             3 => Ok(SystemCall::Fact),
-            _ => Err(UnknownSystemCall(number)),
+            _ => Err(UnknownNumber(number)),
         }
     }
 }
@@ -39,13 +34,3 @@ impl From<SystemCall> for i32 {
         call as i32
     }
 }
-
-impl fmt::Display for UnknownSystemCall {
-    ghost output = { λ e. Some (unknown_system_call_text e) };
-
-    fn fmt<W: fmt::Write>(&self, f: &mut fmt::Formatter<W>) -> fmt::Result {
-        write!(f, "no system call has the number {}", self.0)
-    }
-}
-
-impl Error for UnknownSystemCall {}

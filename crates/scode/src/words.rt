@@ -13,8 +13,7 @@ pub const LEAST_ARGUMENT: i32 = -0x80_0000;
 
 pub const MOST_ARGUMENT: i32 = 0x7f_ffff;
 
-// Not `From` and `TryFrom`: their one member would join the two facts that each call promises.
-// The shift of a signed number brings the sign along.
+// Not `From` and `TryFrom`: two facts with names of their own read better than the one member of a trait.
 pub fn split(word: u32) -> Fields
     ensures answer { result ≡ fields word }
     ensures again { joined result ≡ Some word }
@@ -22,6 +21,7 @@ pub fn split(word: u32) -> Fields
     Fields {
         // `as` loses nothing behind the mask
         opcode: (word & 0xff) as u8,
+        // the shift of a signed number brings the sign along
         argument: word.cast_signed() >> 8,
     }
 }

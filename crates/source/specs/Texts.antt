@@ -15,6 +15,6 @@ pub record Took (s : Texts) (x : Text) (t : Texts) : Type 0 where
   pub file : t.file.now ≡ s.file.now
   pub behind : t.place ≡ s.place + length x.bytes.now
 
--- r is the first text of s, if it has one, and t has the others
+-- r is the first text of s, if it has one, and t has the others; where it has none, t is s
 abbrev pub TakesText : Texts → Option Text → Texts → Type 0
-TakesText s r t = MatchOption r ((first_text (untaken s) ≡ None) × (first_text (untaken t) ≡ None)) (λ x. Took s x t)
+TakesText s r t = MatchOption r ((first_text (untaken s) ≡ None) × (t ≡ s)) (λ x. Took s x t)

@@ -13,7 +13,7 @@ pub struct Location {
     pub end: usize,
 }
 
-// Here and below, with what `few` says the places in `locate` are added up.
+// Here and below, with what `few` says the places in `locate` are added up. Three chains of the library, each its own.
 fn count_feeds(bytes: &[u8]) -> usize
     ensures answer { result ≡ feeds bytes.now }
     ensures few { result ≤ length bytes.now }

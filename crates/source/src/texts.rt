@@ -51,7 +51,8 @@ pub fn text_at(file: &[u8], place: usize) -> Option<&[u8]>
     rest.get(..first_end(rest).max(1))
 }
 
-// The text of a definition, and the place of the file at which it begins.
+// The text of a definition, and the place of the file at which it begins. Not the scanner's `Word`, whose place is one of
+// the text.
 #[derive(Clone, Copy)]
 pub struct Text<'a> {
     pub bytes: &'a [u8],
@@ -66,7 +67,7 @@ pub struct Texts<'a> {
 }
 
 impl<'a> Texts<'a> {
-    pub fn of(file: &'a [u8]) -> Texts<'a>
+    pub fn new(file: &'a [u8]) -> Texts<'a>
         ensures file { result.file.now ≡ file.now }
         ensures place { result.place ≡ 0 }
     {

@@ -3,7 +3,8 @@ ghost use Rattle.std.specs.Prelude.{◌≡◌, ◌+◌, ◌*◌, length, take, I
 ghost use Rattle.packing.specs.Packing.{words_in};
 ghost use Rattle.stored.specs.Stored.{filled, header_in, loading, rule_of, stored};
 
-use crate::rule::{HEADER_BYTES, LoadFault, MOST_WORDS, RuleHeader, VERSION, WORD_BYTES};
+use crate::rule::{HEADER_BYTES, LoadFault, MOST_WORDS, RuleHeader, VERSION};
+use packing::WORD_BYTES;
 
 // The number in two bytes.
 fn half(low: u8, high: u8) -> usize
@@ -42,8 +43,9 @@ fn read_words(bytes: &[u8], words: &mut [u32])
     requires { length bytes.now ≡ 4 * length words.old }
     ensures { words.new ≡ words_in bytes.now }
 {
-    // Words and chunks zipped leave the proof open (tried): std then says nothing of what the words are at the end.
-    let (fours, _) = bytes.as_chunks::<4>();
+    // Not by packing's `word_at`, which would answer for each place whether it is there. Words and chunks zipped leave the
+    // proof open (tried): std then says nothing of what the words are at the end.
+    let (fours, _) = bytes.as_chunks::<WORD_BYTES>();
     for (i, word) in words.iter_mut().enumerate() {
         *word = u32::from_le_bytes(fours[i]);
     }

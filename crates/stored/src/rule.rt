@@ -16,8 +16,6 @@ const COUNTS_BYTES: usize = 8;
 
 pub(crate) const HEADER_BYTES: usize = MARK_BYTES + COUNTS_BYTES;
 
-pub(crate) const WORD_BYTES: usize = 4;
-
 #[derive(Clone, Copy)]
 pub struct RuleHeader {
     pub words: usize,
@@ -39,6 +37,7 @@ impl<'a> Model for BorrowedRule<'a> {
     ghost view = { λ r. rule r.globals r.entry r.words.now };
 }
 
+// Not one type with the faults of a push record: the formats differ in what they count, and change apart.
 #[derive(Clone, Copy, Debug, PartialEq, Eq)]
 pub enum LoadFault {
     // fewer bytes than a header has

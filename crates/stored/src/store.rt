@@ -3,7 +3,8 @@ ghost use Rattle.std.specs.Prelude.{◌≡◌, ◌*◌, length, take, IfOk, Ok};
 ghost use Rattle.packing.specs.Packing.{words_bytes, words_in};
 ghost use Rattle.stored.specs.Stored.{heading, loaded, stored, storing, written};
 
-use crate::rule::{BorrowedRule, HEADER_BYTES, MOST_WORDS, StoreFault, VERSION, WORD_BYTES};
+use crate::rule::{BorrowedRule, HEADER_BYTES, MOST_WORDS, StoreFault, VERSION};
+use packing::WORD_BYTES;
 
 // The bytes in front of the words, if the rule's numbers have room in them.
 fn header(rule: &BorrowedRule<'_>) -> Result<[u8; HEADER_BYTES], StoreFault>
@@ -28,7 +29,8 @@ fn write_words(out: &mut [u8], words: &[u32])
     ensures bytes { out.new ≡ words_bytes words.now }
     ensures again { words_in out.new ≡ words.now }
 {
-    // By chunks_exact_mut the proof stays open (tried): std then says nothing of what the bytes are at the end.
+    // Not by packing's `set_word`, which would answer for each place whether it is there. By chunks_exact_mut the proof stays
+    // open (tried): std then says nothing of what the bytes are at the end.
     for (i, word) in words.iter().enumerate() {
         let at = WORD_BYTES * i;
         out[at..at + WORD_BYTES].copy_from_slice(&word.to_le_bytes());
