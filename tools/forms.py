@@ -31,7 +31,7 @@ LINES = {
     "4b a conversion by `as`": r" as (u8|u16|u32|u64|usize|i32|i64|i128|char)\b",
     "4c equality by hand": r"matches!\(",
     "7a a match from a word to the function to call": r"^\s*\"\w+\" => .*\(",
-    "7b a state or step machine over an enum": r"^\s*(pub(\(crate\))? )?enum (State|Said|Action|Nesting|Step)\b",
+    "7b a state or step machine over an enum": r"^\s*(pub(\(crate\))? )?enum (State|Said|Action|Nesting|Standing)\b",
 }
 KEYWORDS = set("fn let mut if else match for in while loop return self Self Some None Ok Err usize u8 u16 u32 u64 i32 "
                "i64 bool impl pub crate as ref move break continue".split())
@@ -184,7 +184,7 @@ def lengths_beside(files):
                 found.append((f"{name}:{clean[:struct.start()].count(chr(10)) + 1}", f"struct {struct.group(1)}"))
         for place, fn, whole, _ in functions(name, text):
             head = whole.split("{")[0]
-            if re.search(r": &(mut )?\[", head) and re.search(r"\b(len|length|count|written|shown|size): usize", head):
+            if re.search(r": &('\w+ )?(mut )?\[", head) and re.search(r"\b(len|length|count|written|shown|size|entries): usize", head):
                 found.append((place, f"fn {fn}"))
     return found
 
