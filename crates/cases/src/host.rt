@@ -57,6 +57,7 @@ fn rehearsal_case(capacity: usize, case: &mut Case<'_>) -> Result<(), CaseError>
 pub(crate) fn host_case(case: &mut Case<'_>) -> Result<(), CaseError> {
     let kind = case.request.word()?;
     let Room(capacity) = case.request.parse()?;
+    // the match is the table of the hosts, each with words of its own
     match kind {
         "live" => live_case(capacity, case),
         "rehearsal" => rehearsal_case(capacity, case),

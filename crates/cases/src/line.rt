@@ -24,7 +24,7 @@ impl Line {
         write!(self.text, "{word}")
     }
 
-    // `ok` or `no`: whether a call did what it was asked.
+    // `ok` or `no`: the line tells only whether a call did what it was asked.
     pub(crate) fn done<T: Drop, E: Drop>(
         &mut self,
         outcome: Result<T, E>,

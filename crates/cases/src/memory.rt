@@ -28,6 +28,7 @@ fn perform<M: Memory>(memory: &mut M, case: &mut Case<'_>) -> Result<(), CaseErr
 pub(crate) fn memory_case(case: &mut Case<'_>) -> Result<(), CaseError> {
     let kind = case.request.word()?;
     let Room(length) = case.request.parse()?;
+    // the match is the table of the memories, each with a buffer of its own
     match kind {
         "words" => {
             let mut cells = vec![in case.heap; 7i32; length]?;

@@ -17,7 +17,7 @@ pub struct LiveHost<'a> {
 
 impl<'a> LiveHost<'a> {
     // Over a refused record the host has no facts. The buffer may already hold a report, of its first `written` bytes, all
-    // of it where that says more.
+    // of it where that says more; it is lent, so this is told beside it.
     pub fn new(push: &'a [u8], buffer: &'a mut [u8], written: usize) -> LiveHost<'a>
         ensures facts { facts_of result ≡ facts_in push.now }
         ensures report { report_of result ≡ take written buffer.old }

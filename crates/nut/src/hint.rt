@@ -36,7 +36,7 @@ fn definition_words(head: Keyword) -> &'static str {
 // Of the form or list whose opening parenthesis is the first token of `text`.
 pub(crate) fn hint(text: &[u8], outermost: bool) -> &'static str {
     let mut scanner = Scanner::new(text);
-    // the parenthesis
+    // the parenthesis, known before
     let _ = scanner.token();
     let Some(Token::Name(head)) = scanner.token() else {
         return "a form begins with a name, and formals and locals are names alone";

@@ -1,4 +1,5 @@
-// A fault of a stored rule or a push record, as it is told: by its number and its own words.
+// A fault of a stored rule or a push record, as it is told: by its number and its own words. Each crate has the table of its
+// own numbers; the trait passes them on under one name.
 use live_host::record::RecordFault;
 use std::fmt::Display;
 use stored::rule::{LoadFault, StoreFault};

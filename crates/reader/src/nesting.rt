@@ -10,7 +10,7 @@ use scanner::token::Token;
 
 pub const DEEPEST: u32 = 32;
 
-// Where a token stands.
+// Where a token stands: matched together with the token.
 #[derive(Clone, Copy)]
 pub(crate) enum Nesting {
     Before,

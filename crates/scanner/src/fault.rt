@@ -31,6 +31,7 @@ pub enum ScanFault {
 }
 
 impl ScanFault {
+    // The rules list these numbers for the caller; the kinds are the enum.
     pub fn refusal(self) -> Refusal
         ensures { result ≡ scan_refusal self }
     {

@@ -8,7 +8,7 @@ use crate::fault::ScanFault;
 use crate::number::token_of;
 use crate::token::{Token, Word};
 
-// Where the scanner stands before a byte.
+// Where the scanner stands before a byte: matched together with the byte's class.
 #[derive(Clone, Copy)]
 enum State {
     Between,

@@ -9,7 +9,7 @@ ghost use Rattle.source.specs.Texts.{TakesText};
 use scanner::scanner::Scanner;
 use scanner::token::Token;
 
-// Where the next token stands.
+// Where the next token stands: matched together with it.
 #[derive(Clone, Copy)]
 enum Standing {
     // nothing came yet

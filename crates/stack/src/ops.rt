@@ -20,6 +20,7 @@ impl<'a, T: Copy> Stack<'a, T> {
     }
 
     // A stack over cells that hold entries already, the first `entries` of them; a number past the last cell counts as all.
+    // The cells are lent, so the number is told beside them.
     pub fn over(lender: &'a mut [T], entries: usize) -> Stack<'a, T>
         ensures after { cells result ≡ lender.old }
         ensures depth { depth result ≡ min entries (length lender.old) }

@@ -19,7 +19,7 @@ fn header(bytes: &[u8]) -> Result<RuleHeader, LoadFault>
     if bytes.len() < HEADER_BYTES {
         return Err(LoadFault::Short);
     }
-    let [b'N', b'S', b'C', v0, v1, w0, w1, g0, g1, e0, e1, body @ ..] = bytes else {
+    let [b'N', b'S', b'C', v0, v1, w0, w1, g0, g1, e0, e1, rest @ ..] = bytes else {
         return Err(LoadFault::Mark);
     };
     if u16::from_le_bytes([*v0, *v1]) != VERSION {
@@ -29,7 +29,7 @@ fn header(bytes: &[u8]) -> Result<RuleHeader, LoadFault>
     if words > MOST_WORDS {
         return Err(LoadFault::TooManyWords);
     }
-    if body.len() != WORD_BYTES * words {
+    if rest.len() != WORD_BYTES * words {
         return Err(LoadFault::Length);
     }
     Ok(RuleHeader {
