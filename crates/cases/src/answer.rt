@@ -9,7 +9,7 @@ use crate::rule::{load_case, store_case};
 use crate::word::word_case;
 use std::alloc::{AllocError, Global};
 
-// No word may be left behind the call's own. The match is the table of the calls: one of functions would say no more.
+// Each call takes all the words of its line. The match is the table of the calls: one of functions would say no more.
 fn perform(case: &mut Case<'_>) -> Result<(), CaseError> {
     match case.request.word()? {
         "read" => read_case(case),
@@ -20,11 +20,6 @@ fn perform(case: &mut Case<'_>) -> Result<(), CaseError> {
         "memory" => memory_case(case),
         "host" => host_case(case),
         _ => Err(CaseError::Unreadable),
-    }?;
-    // a word left behind is the error, not its absence, so no `ok_or`
-    match case.request.words.next() {
-        Some(_) => Err(CaseError::Unreadable),
-        None => Ok(()),
     }
 }
 

@@ -4,6 +4,9 @@ use crate::line::Line;
 use crate::request::Request;
 use std::alloc::{AllocError, Global};
 
+// How many bytes are turned to digits at once.
+const PART_BYTES: usize = 1024;
+
 #[derive(Drop)]
 pub(crate) struct Case<'a> {
     pub(crate) heap: Global,
@@ -23,18 +26,25 @@ impl<'a> Case<'a> {
     }
 
     // Two hexadecimal digits a byte, `-` for none.
-    pub(crate) fn read_bytes(&mut self) -> Result<Vec<u8>, CaseError> {
-        match self.request.word()? {
+    pub(crate) fn bytes_of(&self, word: &str) -> Result<Vec<u8>, CaseError> {
+        match word {
             "" => Err(CaseError::Unreadable),
             "-" => Ok(Vec::new(self.heap)),
             digits => Ok(hex::decode(self.heap, digits)?),
         }
     }
 
+    // Part by part, so that no second text of the whole stands beside the line.
     pub(crate) fn tell_bytes(&mut self, bytes: &[u8]) -> Result<(), AllocError> {
         if bytes.is_empty() {
             return self.line.word("-");
         }
-        self.line.word(hex::encode(self.heap, bytes)?)
+        self.line.word("")?;
+        for part in bytes.chunks(PART_BYTES) {
+            self.line
+                .text
+                .push_str(hex::encode(self.heap, part)?.as_str())?;
+        }
+        Ok(())
     }
 }

@@ -24,7 +24,8 @@ fn perform<H: PushHost>(host: &mut H, case: &mut Case<'_>) -> Result<(), CaseErr
 }
 
 fn live_case(capacity: usize, case: &mut Case<'_>) -> Result<(), CaseError> {
-    let record = case.read_bytes()?;
+    let word = case.request.word()?;
+    let record = case.bytes_of(word)?;
     let mut buffer = vec![in case.heap; 0u8; capacity]?;
     let mut host = LiveHost::new(&record, &mut buffer, 0);
     perform(&mut host, case)?;

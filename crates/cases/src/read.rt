@@ -13,7 +13,8 @@ fn tell_refusal(refusal: Refusal, line: &mut Line) -> Result<(), AllocError> {
 }
 
 pub(crate) fn read_case(case: &mut Case<'_>) -> Result<(), CaseError> {
-    let bytes = case.read_bytes()?;
+    let word = case.request.last_word()?;
+    let bytes = case.bytes_of(word)?;
     match read(&bytes) {
         Ok(definition) => {
             case.line.word("ok")?;

@@ -4,7 +4,8 @@ use crate::error::CaseError;
 use live_host::record::PushRecord;
 
 pub(crate) fn record_case(case: &mut Case<'_>) -> Result<(), CaseError> {
-    let bytes = case.read_bytes()?;
+    let word = case.request.last_word()?;
+    let bytes = case.bytes_of(word)?;
     match PushRecord::read(&bytes) {
         Ok(record) => {
             case.line.word("facts")?;

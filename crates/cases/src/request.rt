@@ -18,6 +18,16 @@ impl<'a> Request<'a> {
         self.words.next().ok_or(CaseError::Unreadable)
     }
 
+    // The next word, behind which no other may stand: a line with a word left behind is not worked through first.
+    pub(crate) fn last_word(&mut self) -> Result<&'a str, CaseError> {
+        let word = self.word()?;
+        // a word left behind is the error, not its absence, so no `ok_or`
+        match self.words.next() {
+            Some(_) => Err(CaseError::Unreadable),
+            None => Ok(word),
+        }
+    }
+
     pub(crate) fn parse<T: FromStr>(&mut self) -> Result<T, CaseError>
     where
         T::Err: Drop,

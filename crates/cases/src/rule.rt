@@ -8,7 +8,8 @@ use stored::store::store;
 
 pub(crate) fn load_case(case: &mut Case<'_>) -> Result<(), CaseError> {
     let Room(room) = case.request.parse()?;
-    let bytes = case.read_bytes()?;
+    let word = case.request.last_word()?;
+    let bytes = case.bytes_of(word)?;
     let mut words = vec![in case.heap; 0u32; room]?;
     match load(&bytes, &mut words) {
         Ok(header) => {

@@ -6,7 +6,7 @@ use scode::code::decode;
 use scode::words::split;
 
 pub(crate) fn word_case(case: &mut Case<'_>) -> Result<(), CaseError> {
-    let HexWord(word) = case.request.parse()?;
+    let HexWord(word) = case.request.last_word()?.parse()?;
     let fields = split(word);
     case.line.word(fields.opcode)?;
     case.line.word(fields.argument)?;
