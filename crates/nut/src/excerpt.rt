@@ -1,7 +1,7 @@
 // The line of a place, with a caret under the place.
 use crate::letter::letter;
 use source::location::Location;
-use std::fmt;
+use std::{fmt, str};
 
 // The most bytes shown before the place, and from it on.
 const BEFORE: usize = 60;
@@ -16,30 +16,39 @@ pub(crate) struct Excerpt<'a> {
     pub(crate) place: usize,
 }
 
-// One letter a byte, so that the caret stands under its byte.
-fn shown(byte: u8) -> char {
+// How many letters are written at once: one by one, each takes a call of its own.
+const PART: usize = 32;
+
+// One ASCII letter a byte, so that the caret stands under its byte.
+fn shown(byte: u8) -> u8 {
     match byte {
-        b'\t' => '\t',
-        b'\r' => ' ',
-        _ => letter(byte).unwrap_or('?'),
+        b'\t' => b'\t',
+        b'\r' => b' ',
+        _ if letter(byte).is_some() => byte,
+        _ => b'?',
     }
 }
 
 // Blanks as wide as the bytes; a tab stays a tab.
-fn margin(byte: u8) -> char {
-    if byte == b'\t' { '\t' } else { ' ' }
+fn margin(byte: u8) -> u8 {
+    if byte == b'\t' { b'\t' } else { b' ' }
 }
 
-// A letter for each byte.
-fn write_letters<W: fmt::Write, L: Fn(u8) -> char + Drop>(
+// An ASCII letter for each byte.
+fn write_letters<W: fmt::Write, L: Fn(u8) -> u8 + Drop>(
     f: &mut fmt::Formatter<W>,
     bytes: &[u8],
     letter: L,
 ) -> fmt::Result
     requires { L.IsAlwaysCallable letter }
 {
-    for byte in bytes {
-        f.write_char(letter(*byte))?;
+    for part in bytes.chunks(PART) {
+        let mut letters = [b' '; PART];
+        for (place, byte) in letters.iter_mut().zip(part) {
+            *place = letter(*byte);
+        }
+        let letters = letters.get(..part.len()).unwrap_or(&letters);
+        f.write_str(str::from_utf8(letters).map_err(|_| fmt::Error)?)?;
     }
     Ok(())
 }
@@ -55,6 +64,6 @@ impl fmt::Display for Excerpt<'_> {
         write_letters(f, behind, shown)?;
         f.write_str("\n    ")?;
         write_letters(f, before, margin)?;
-        f.write_char('^')
+        f.write_str("^")
     }
 }

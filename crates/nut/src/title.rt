@@ -1,17 +1,14 @@
 // The kind of a definition and what it names.
 use reader::definition::Definition;
-use std::fmt;
+use std::{fmt, str};
 
 #[derive(Clone, Copy)]
 pub(crate) struct Title<'a>(pub(crate) Definition<'a>);
 
-// Words are ASCII, so each byte is a letter.
+// Words are ASCII, and so text. The whole at once: a letter at a time, each takes a call of its own.
 fn write_word<W: fmt::Write>(word: &[u8], f: &mut fmt::Formatter<W>) -> fmt::Result {
-    f.write_char(' ')?;
-    for byte in word {
-        f.write_char(char::from(*byte))?;
-    }
-    Ok(())
+    f.write_str(" ")?;
+    f.write_str(str::from_utf8(word).map_err(|_| fmt::Error)?)
 }
 
 impl fmt::Display for Title<'_> {
