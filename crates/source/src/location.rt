@@ -13,12 +13,17 @@ pub struct Location {
     pub end: usize,
 }
 
-// Here and below, with what `few` says the places in `locate` are added up. Three chains of the library, each its own.
+// Here and below, with what `few` says the places in `locate` are added up. No chain: `filter(..).count()` branches at each
+// byte, and `nut check` took up to four times as long where lines are short.
 fn count_feeds(bytes: &[u8]) -> usize
     ensures answer { result ≡ feeds bytes.now }
     ensures few { result ≤ length bytes.now }
 {
-    bytes.iter().filter(|b| **b == LINE_FEED).count()
+    let mut count = 0;
+    for byte in bytes {
+        count += usize::from(*byte == LINE_FEED);
+    }
+    count
 }
 
 // How far the line goes on from the front.
