@@ -71,8 +71,11 @@ fn has_shape(elements: &Scanner, number: usize) -> bool
     let Some(Token::Name(head)) = scanner.token() else {
         return false;
     };
-    let leading = leading_of(&scanner);
-    shape_of(Keyword::of(head.bytes)).is_some_and(|shape| shape.takes(leading, number - 1))
+    // not by `is_some_and` over what stands next: behind a head without a shape nothing has to be scanned
+    let Some(shape) = shape_of(Keyword::of(head.bytes)) else {
+        return false;
+    };
+    shape.takes(leading_of(&scanner), number - 1)
 }
 
 // Reads the elements of a list up to its closing parenthesis, of which `room` may be opened.
