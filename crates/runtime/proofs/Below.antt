@@ -8,6 +8,7 @@ use Rattle.std.proofs.lemmas.Bool.{cases_lt, cond-true, cond-false, le-ltb}
 use Rattle.std.proofs.lemmas.List.{length-take, replicate-append-replicate, take_more_set}
 use Rattle.std.proofs.lemmas.Option.{MatchOption-at_none, MatchOption-at_some, none-some, same_Some}
 use Rattle.runtime.specs.Access.{Effect, nth_integer, place, stored_at, unchanged}
+use Rattle.runtime.specs.Meanings.{Kept}
 use Rattle.runtime.specs.declared.stop.Stop.TheVariants.{Address}
 
 pub nth_take : (top : ℕ) (m : List ℤ) (i : ℕ) → i < top → slice_get (take top m) i ≡ slice_get m i
@@ -16,7 +17,7 @@ nth_take (suc top) [] i h = refl
 nth_take (suc top) (x ∷ m) zero h = refl
 nth_take (suc top) (x ∷ m) (suc i) h = nth_take top m i (omega arith)
 
-nth_take_past : (top : ℕ) (m : List ℤ) (i : ℕ) → top ≤ i → slice_get (take top m) i ≡ None
+pub nth_take_past : (top : ℕ) (m : List ℤ) (i : ℕ) → top ≤ i → slice_get (take top m) i ≡ None
 nth_take_past zero m i h = refl
 nth_take_past (suc top) [] i h = refl
 nth_take_past (suc top) (x ∷ m) zero h = absurd (omega arith)
@@ -64,3 +65,17 @@ zeros_more from i old m h w t =
 
 pub rest_more : (i : ℕ) (old m : List ℤ) (v : ℤ) → drop i m ≡ drop i old → drop (i + 1) (set m i v) ≡ drop (i + 1) old
 rest_more i old m v e = drop-set-lt (i + 1) m i v (omega arith) ∙ sym (drop-drop 1 i m) ∙ ap (drop 1) e ∙ drop-drop 1 i old
+
+later : (a b : ℕ) (m n : List ℤ) → a ≤ b → drop a m ≡ drop a n → drop b m ≡ drop b n
+later a b m n h e =
+    let k : b ≡ a + (b - a) = omega arith in
+    ap (λ x. drop x m) k ∙ sym (drop-drop (b - a) a m) ∙ ap (drop (b - a)) e ∙ drop-drop (b - a) a n ∙ sym (ap (λ x. drop x n) k)
+
+-- what two calls in a row keep; the check does not find it alone
+pub kept_trans : (a b c : ℕ) (l m n : List ℤ) → Kept a l b m → Kept b m c n → Kept a l c n
+kept_trans a b c l m n p q =
+    record {
+      higher = omega arith;
+      long = q.long ∙ p.long;
+      rest = q.rest ∙ later b c m l q.higher p.rest;
+    }

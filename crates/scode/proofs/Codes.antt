@@ -12,7 +12,7 @@ use Rattle.scode.specs.Words.{both, fits24, fields, joined}
 use Rattle.scode.specs.Instructions.{named, known_as, decoded, fields_of, encoded}
 
 -- what a word says, if anything, has the word's opcode and argument
-named_says : (opcode : Opcode) (a : ℤ) → fits24 a ≡ true → IfSome (named opcode a) (λ i. fields_of i ≡ Some (both (number_of opcode) a))
+pub named_says : (opcode : Opcode) (a : ℤ) → fits24 a ≡ true → IfSome (named opcode a) (λ i. fields_of i ≡ Some (both (number_of opcode) a))
 named_says opcode (pos n) h = grind (arith, common_steps)
 named_says opcode (negsuc n) h = grind (arith, common_steps)
 
@@ -25,7 +25,7 @@ known_says f h = grind (arith, common_steps, number_again f.opcode, named_says)
 fields_fit : (w : ℕ) → w < 4294967296 → fits24 (fields w).argument ≡ true
 fields_fit w h = grind (arith, common_steps)
 
-word_again : (w : ℕ) → w < 4294967296 → joined (fields w) ≡ Some w
+pub word_again : (w : ℕ) → w < 4294967296 → joined (fields w) ≡ Some w
 word_again w h = grind (arith, common_steps)
 
 -- over what is known, so that nothing opens it
@@ -44,7 +44,7 @@ bad_back v (Some i) w k t j = absurd (grind (arith, common_steps))
 passed : (b : Bool) (x y : Fields) → then_some b x ≡ Some y → (b ≡ true) × (y ≡ x)
 passed b x y e = grind (arith, common_steps)
 
-fields_back : (i : Instruction) (f : Fields) (w : ℕ) → fields_of i ≡ Some f → joined f ≡ Some w → unwrap_or (known_as f) (Bad w) ≡ i
+pub fields_back : (i : Instruction) (f : Fields) (w : ℕ) → fields_of i ≡ Some f → joined f ≡ Some w → unwrap_or (known_as f) (Bad w) ≡ i
 fields_back (Bad v) f w s j = let p = passed _ _ _ s in rw p.1 (bad_back v (known_as (fields v)) w refl p.0 (rw p.1 at j))
 fields_back i f w s j = grind (arith, common_steps)
 
