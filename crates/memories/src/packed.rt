@@ -31,6 +31,7 @@ impl Buffer for &mut [u8] {
 
     ghost Written = { λ a i v b. b.now ≡ packed_in a.now i (of_z w32 v) };
 
+    #[tactic(auto, using(packing::proofs::Cells::length_cells))]
     fn cell_count(&self) -> usize {
         self.len() / WORD_BYTES
     }
@@ -39,6 +40,7 @@ impl Buffer for &mut [u8] {
         cell_at(&**self, i)
     }
 
+    #[tactic(auto, using(packing::proofs::Cells::length_cells))]
     fn set_cell(&mut self, i: usize, v: i32) -> Result<(), Outside> {
         set_word(&mut **self, i, v.cast_unsigned()).map_err(|_| Outside)
     }

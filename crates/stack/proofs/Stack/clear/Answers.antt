@@ -1,14 +1,24 @@
-use Rattle.std.proofs.Common.{◌≡◌, List, [], ◌∷◌, length, replicate, refl, ap, ◌∙◌, rules, subst}
-use Rattle.std.specs.List.{FoldsTo}
+use Rattle.std.proofs.Common.{◌≡◌, List, set, ap, ◌∙◌, arith, length-set, rules}
+use Rattle.stack.proofs.Tops.{wiped_all, wiped_more}
 use Rattle.stack.proofs.Stack.clear.Goals as goal
 
-filled : {F X : Type 0} (R : F → X → F → Type 0) (f : F) (x : X) → ((y : X) (g : F) → R f y g → (y ≡ x) × (g ≡ f)) → (ys : List X) (last : F) → FoldsTo R f ys last → ys ≡ replicate (length ys) x
-filled R f x same [] last r = refl
-filled R f x same (y ∷ ys) last (g, h, r) =
-    let s = same y g h in
-    let P : _ → Type 0 = λ k. FoldsTo R k ys last in
-    let e : ys ≡ replicate (length ys) x = filled R f x same ys last (subst P s.1 r) in
-    cc (s.0, e)
+pub bounds-self-i : goal.bounds-self-i
+bounds-self-i g c = omega (arith, c.loop-i.invariant.1)
 
-pub returns-clause-after : goal.returns-clause-after
-returns-clause-after g c = let r = c.fill_with.ensures.ran in filled _ _ c.args.blank (λ y k s. (search rules, search rules)) c.fill_with.new.self r.0 r.1 ∙ ap (λ n. replicate n c.args.blank) c.fill_with.ensures.len
+pub loop-i-preserved : goal.loop-i-preserved
+loop-i-preserved g c = (
+  ap (λ (l : List g.row.T.Denot). set l c.loop-i.i c.args.blank) c.loop-i.invariant.0 ∙ wiped_more c.loop-i.i c.args.blank c.args.self.now.cells.now (omega arith),
+  length-set _ _ _ ∙ c.loop-i.invariant.1,
+  c.loop-i.invariant.2,
+  c.loop-i.invariant.3,
+)
+
+pub returns : goal.returns
+returns g c =
+    let e : c.loop-i.self.depth ≡ 0 = c.loop-i.invariant.2 in
+    record {
+      after = c.loop-i.invariant.0 ∙ wiped_all c.loop-i.i c.args.blank c.args.self.now.cells.now (omega arith) (omega arith);
+      depth = c.loop-i.invariant.2;
+      held = search rules;
+      lent = c.loop-i.invariant.3;
+    }
