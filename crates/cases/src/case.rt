@@ -25,6 +25,12 @@ impl<'a> Case<'a> {
         }
     }
 
+    // The bytes of the line's last word.
+    pub(crate) fn last_bytes(&mut self) -> Result<Vec<u8>, CaseError> {
+        let word = self.request.last_word()?;
+        self.bytes_of(word)
+    }
+
     // Two hexadecimal digits a byte, `-` for none.
     pub(crate) fn bytes_of(&self, word: &str) -> Result<Vec<u8>, CaseError> {
         match word {
@@ -39,6 +45,7 @@ impl<'a> Case<'a> {
         if bytes.is_empty() {
             return self.line.word("-");
         }
+        // the blank before it
         self.line.word("")?;
         for part in bytes.chunks(PART_BYTES) {
             self.line

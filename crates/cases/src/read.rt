@@ -13,8 +13,7 @@ fn tell_refusal(refusal: Refusal, line: &mut Line) -> Result<(), AllocError> {
 }
 
 pub(crate) fn read_case(case: &mut Case<'_>) -> Result<(), CaseError> {
-    let word = case.request.last_word()?;
-    let bytes = case.bytes_of(word)?;
+    let bytes = case.last_bytes()?;
     match read(&bytes) {
         Ok(definition) => {
             case.line.word("ok")?;

@@ -4,8 +4,7 @@ use crate::error::CaseError;
 use live_host::record::PushRecord;
 
 pub(crate) fn record_case(case: &mut Case<'_>) -> Result<(), CaseError> {
-    let word = case.request.last_word()?;
-    let bytes = case.bytes_of(word)?;
+    let bytes = case.last_bytes()?;
     match PushRecord::read(&bytes) {
         Ok(record) => {
             case.line.word("facts")?;

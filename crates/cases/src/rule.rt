@@ -8,8 +8,7 @@ use stored::store::store;
 
 pub(crate) fn load_case(case: &mut Case<'_>) -> Result<(), CaseError> {
     let Room(room) = case.request.parse()?;
-    let word = case.request.last_word()?;
-    let bytes = case.bytes_of(word)?;
+    let bytes = case.last_bytes()?;
     let mut words = vec![in case.heap; 0u32; room]?;
     match load(&bytes, &mut words) {
         Ok(header) => {

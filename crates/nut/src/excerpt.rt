@@ -8,6 +8,9 @@ const BEFORE: usize = 60;
 
 const BEHIND: usize = 40;
 
+// How many letters are written at once: one by one, each takes a call of its own.
+const LETTERS_AT_ONCE: usize = 32;
+
 // The line around the place, cut if it is long, and below it a caret under the place.
 #[derive(Clone, Copy)]
 pub(crate) struct Excerpt<'a> {
@@ -15,9 +18,6 @@ pub(crate) struct Excerpt<'a> {
     pub(crate) location: Location,
     pub(crate) place: usize,
 }
-
-// How many letters are written at once: one by one, each takes a call of its own.
-const PART: usize = 32;
 
 // One ASCII letter a byte, so that the caret stands under its byte.
 fn shown(byte: u8) -> u8 {
@@ -42,11 +42,12 @@ fn write_letters<W: fmt::Write, L: Fn(u8) -> u8 + Drop>(
 ) -> fmt::Result
     requires { L.IsAlwaysCallable letter }
 {
-    for part in bytes.chunks(PART) {
-        let mut letters = [b' '; PART];
-        for (place, byte) in letters.iter_mut().zip(part) {
-            *place = letter(*byte);
+    for part in bytes.chunks(LETTERS_AT_ONCE) {
+        let mut letters = [b' '; LETTERS_AT_ONCE];
+        for (out, byte) in letters.iter_mut().zip(part) {
+            *out = letter(*byte);
         }
+        // by `get`, since the proof does not see that a part is no longer than this
         let letters = letters.get(..part.len()).unwrap_or(&letters);
         f.write_str(str::from_utf8(letters).map_err(|_| fmt::Error)?)?;
     }
@@ -64,6 +65,6 @@ impl fmt::Display for Excerpt<'_> {
         write_letters(f, behind, shown)?;
         f.write_str("\n    ")?;
         write_letters(f, before, margin)?;
-        f.write_str("^")
+        f.write_char('^')
     }
 }

@@ -5,9 +5,9 @@ use std::{fmt, str};
 #[derive(Clone, Copy)]
 pub(crate) struct Title<'a>(pub(crate) Definition<'a>);
 
-// Words are ASCII, and so text. The whole at once: a letter at a time, each takes a call of its own.
+// Words are ASCII, so they are text, and never an error. The whole at once: a letter at a time, each takes a call of its own.
 fn write_word<W: fmt::Write>(word: &[u8], f: &mut fmt::Formatter<W>) -> fmt::Result {
-    f.write_str(" ")?;
+    f.write_char(' ')?;
     f.write_str(str::from_utf8(word).map_err(|_| fmt::Error)?)
 }
 

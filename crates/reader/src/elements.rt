@@ -71,7 +71,8 @@ fn has_shape(elements: &Scanner, number: usize) -> bool
     let Some(Token::Name(head)) = scanner.token() else {
         return false;
     };
-    // not by `is_some_and` over what stands next: behind a head without a shape nothing has to be scanned
+    // Not by `is_some_and`: with the look at what stands next inside of it the proof stays open (tried), and before it that is
+    // scanned in vain where the head has no shape.
     let Some(shape) = shape_of(Keyword::of(head.bytes)) else {
         return false;
     };
